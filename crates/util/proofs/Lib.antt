@@ -1,0 +1,5 @@
+pub mod Bits
+pub mod Places
+pub mod Tally
+pub mod Descent
+pub mod Average

@@ -1,0 +1,5 @@
+pub mod Word
+pub mod Row
+pub mod Outcome
+pub mod Average
+pub mod Search
