@@ -1,12 +1,12 @@
 -- The bits of a word under every operation that the code makes on words.
-use mathlib.Core.Path.{_≡_, refl, sym, ap, _∙_}
+use mathlib.Core.Path.{_≡_, refl, sym, ap, _∙_, subst}
 use mathlib.Core.Logic.{_≢_}
 use Prim.Native.Nat.{ℕ, zero, suc, _+_, _-_, _*_, _/_, _%_, _^_, _≤_, _<_, min, max}
-use native.Mathlib.Nat.{mod-lt, mul-add-mod-self-right, mod-eq-of-lt, zero-div, one-mul, pow-suc, div-div-eq-div-mul, mul-comm, div-one, zero-lt-suc, div-eq-of-lt, mul-div-cancel}
+use native.Mathlib.Nat.{mod-lt, mul-add-mod-self-right, mod-eq-of-lt, zero-div, one-mul, pow-suc, div-div-eq-div-mul, mul-comm, div-one, zero-lt-suc, div-eq-of-lt, mul-div-cancel, add-zero, div-lt-iff-lt-mul}
 use native.Mathlib.Decide.{decLt, ℕ-discrete}
 use native.Mathlib.Omega.{arith}
 use lib.Arith.{bin-ind}
-use lib.Pow.{pow-pos, pow-lt, pow-mono, shl-exact, shl-shr}
+use lib.Pow.{pow-pos, pow-lt, pow-mono, shl-exact, shl-shr, split}
 use lib.Bits.{bitAnd, bitOr, bitXor, differ, and-step, or-step, xor-step, and-shr, or-shr, xor-shr, or-disjoint, or-lt, and-le-l}
 use Rattle.util.specs.Word.{bit}
 
@@ -200,3 +200,23 @@ module _ (w b : ℕ) (h : w < 2 ^ 64) (g : b < 64) (on : bit w b ≡ 1) where
 
   pub minus-other : (j : ℕ) → j < 64 → j ≢ b → bit (w - 2 ^ b) j ≡ bit w j
   minus-other j l n = ap (λ (x : ℕ). bit x j) (sym clear-minus) ∙ clear-other w b j g l n
+
+-- a word whose bits from n on are clear is below 2 ^ n
+clear-below : (m n w : ℕ) → w < 2 ^ (n + m) → ((b : ℕ) → n ≤ b → b < n + m → bit w b ≡ 0) → w < 2 ^ n
+unfolding bit
+clear-below zero n w h c = subst (λ (x : ℕ). w < 2 ^ x) (add-zero n) h
+clear-below (suc m) n w h c =
+    let e : n + suc m ≡ suc (n + m) = omega arith in
+    let l : w < 2 ^ (n + m) * 2 = subst (λ (x : ℕ). w < x) (ap (λ (x : ℕ). 2 ^ x) e ∙ pow-suc 2 (n + m)) h in
+    let z : w / 2 ^ (n + m) % 2 ≡ 0 = c (n + m) (omega arith) (omega arith) in
+    let t : w / 2 ^ (n + m) < 2 = div-lt-iff-lt-mul (pow-pos (n + m)) .1 (omega arith) in
+    clear-below m n w (omega (arith, split w (n + m), mod-lt w (pow-pos (n + m)), ap (λ (x : ℕ). x * 2 ^ (n + m)) (small (w / 2 ^ (n + m)) t z)))
+    (λ b i u. c b i (omega arith))
+  where
+    small : (x : ℕ) → x < 2 → x % 2 ≡ 0 → x ≡ 0
+    small x l e = omega arith
+
+pub bits-below : (n w : ℕ) → n ≤ 64 → w < 2 ^ 64 → ((b : ℕ) → n ≤ b → b < 64 → bit w b ≡ 0) → w < 2 ^ n
+bits-below n w h l c =
+    let e : 64 ≡ n + (64 - n) = omega arith in
+    clear-below (64 - n) n w (subst (λ (x : ℕ). w < 2 ^ x) e l) (λ b i u. c b i (omega arith))

@@ -71,15 +71,16 @@ length-keep : (d b c : ℕ) (x y : List ℕ) → length x ≡ length y → lengt
 length-keep zero b c x y e = e
 length-keep (suc d) b c x y e = ap suc e
 
-pub length-shift : (f g : ℕ → ℕ) (b c n : ℕ) → ((i : ℕ) → f (b + i) ≡ g (c + i)) → length (places f b n) ≡ length (places g c n)
+pub length-shift : (f g : ℕ → ℕ) (b c n : ℕ) → ((i : ℕ) → i < n → f (b + i) ≡ g (c + i)) → length (places f b n) ≡ length (places g c n)
 unfolding places
 length-shift f g b c zero h = refl
 length-shift f g b c (suc n) h =
-    let e : f b ≡ g c = ap f (sym (add-zero b)) ∙ h 0 ∙ ap g (add-zero c) in
-    length-keep (f b) b c (places f (suc b) n) (places g (suc c) n) (length-shift f g (suc b) (suc c) n (λ i.
+    let e : f b ≡ g c = ap f (sym (add-zero b)) ∙ h 0 (omega arith) ∙ ap g (add-zero c) in
+    length-keep (f b) b c (places f (suc b) n) (places g (suc c) n)
+    (length-shift f g (suc b) (suc c) n (λ i l.
     let x : suc b + i ≡ b + suc i = omega arith in
     let y : c + suc i ≡ suc c + i = omega arith in
-    ap f x ∙ h (suc i) ∙ ap g y))
+    ap f x ∙ h (suc i) (omega arith) ∙ ap g y))
     ∙ ap (λ (d : ℕ). length (keep d c (places g (suc c) n))) e
 
 -- ---- the set bits of a word
@@ -89,13 +90,13 @@ unfolding bits
 bits-zero = places-none (bit 0) 0 64 (λ i l u. bit-of-zero i)
 
 -- they are as many as its count says
-length-bits-in : (n w : ℕ) → length (places (bit w) 0 n) ≡ onesIn n w
+pub length-bits-in : (n w : ℕ) → length (places (bit w) 0 n) ≡ onesIn n w
 unfolding places onesIn
 length-bits-in zero w = refl
 length-bits-in (suc n) w = go (bit w 0) refl (halved ∙ length-bits-in n (w / 2))
   where
     halved : length (places (bit w) 1 n) ≡ length (places (bit (w / 2)) 0 n)
-    halved = length-shift (bit w) (bit (w / 2)) 1 0 n (λ i.
+    halved = length-shift (bit w) (bit (w / 2)) 1 0 n (λ i l.
         let e : 1 + i ≡ suc i = omega arith in
         let z : i ≡ 0 + i = omega arith in
         ap (bit w) e ∙ bit-suc w i ∙ ap (bit (w / 2)) z)

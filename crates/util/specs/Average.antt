@@ -5,7 +5,6 @@ use mathlib.Core.List.{List, [], _∷_}
 use mathlib.Core.Path.{_≡_, refl}
 use Prim.Native.Nat.{ℕ, _/_, _^_}
 use lib.Dec.{eqb}
-use lib.ListN.{getD}
 use Rattle.util.specs.Word.{bit, count, places}
 use Rattle.util.specs.Outcome.{Outcome, Paper}
 use Rattle.util.specs.declared.Half.{Half}

@@ -1,0 +1,4 @@
+pub mod Layout
+pub mod Word
+pub mod Build
+pub mod Shape
