@@ -106,24 +106,24 @@ same-place N k j q r hk hj hq hr e = go (decLt k j) (decLt j k)
         (p, omega arith)
 
 -- every word behind the header is a word of a layer
-pub record Found (N x : ℕ) : Type 0 where
+pub record Spot (N x : ℕ) : Type 0 where
   pub layer : ℕ
   pub index : ℕ
   pub known : layer ≤ top N
   pub inside : index < layerLen N layer
   pub here : x ≡ layerStart N layer + index
 
-found-from : (N x d k : ℕ) → k + d ≡ suc (top N) → header ≤ x → x < layerEnd N k → Found N x
-found-from N x zero k e h l =
+spot-from : (N x d k : ℕ) → k + d ≡ suc (top N) → header ≤ x → x < layerEnd N k → Spot N x
+spot-from N x zero k e h l =
     let q : layerEnd N k ≡ header = ap (layerEnd N) (omega arith) ∙ end-top N in
     absurd (omega arith)
-found-from N x (suc d) k e h l = go (λ b. found-from N x d (suc k) (omega arith) h b) (decLt x (layerStart N k))
+spot-from N x (suc d) k e h l = go (λ b. spot-from N x d (suc k) (omega arith) h b) (decLt x (layerStart N k))
   where
-    go : (x < layerStart N k → Found N x) → Dec (x < layerStart N k) → Found N x
+    go : (x < layerStart N k → Spot N x) → Dec (x < layerStart N k) → Spot N x
     go above (yes b) = above b
     go above (no b) =
         let g : k ≤ top N = omega arith in
         record { layer = k; index = x - layerStart N k; known = g; inside = omega (arith, end-step N k g); here = omega arith }
 
-pub found-in : (N x : ℕ) → header ≤ x → x < storeLen N → Found N x
-found-in N x h l = found-from N x (suc (top N)) 0 (omega arith) h l
+pub spot-in : (N x : ℕ) → header ≤ x → x < storeLen N → Spot N x
+spot-in N x h l = spot-from N x (suc (top N)) 0 (omega arith) h l

@@ -12,7 +12,7 @@ use Rattle.util.proofs.Bits.{word-ext}
 use Rattle.util.proofs.Places.{some-bit, places-in, in-places, places-rising}
 use Rattle.store.specs.Layout.{header, top, room, layerLen, layerStart, storeLen, cap}
 use Rattle.store.specs.Word.{word, on, anc, Member, members, Sound, Words64}
-use Rattle.store.proofs.Geometry.{IsStore, found-in}
+use Rattle.store.proofs.Geometry.{IsStore, spot-in}
 use Rattle.store.proofs.Words.{word-in, word-lt, on-lt, on-word, bit-place}
 
 -- ---- the list of members: exactly the members, each once, rising
@@ -95,7 +95,7 @@ by-layers N s t ls lt head layers = ext-getD 0 s t (ls ∙ sym lt) (λ x l. at x
     at : (x : ℕ) → x < length s → Dec (x < header) → getD s x 0 ≡ getD t x 0
     at x l (yes h) = head x h
     at x l (no h) =
-        let f = found-in N x (omega arith) (omega arith) in
+        let f = spot-in N x (omega arith) (omega arith) in
         ap (λ (y : ℕ). getD s y 0) (f .here)
         ∙ sym (word-in N s (f .layer) (f .index) (f .inside))
         ∙ layers (f .layer) (f .known) (f .index)

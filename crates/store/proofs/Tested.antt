@@ -1,14 +1,17 @@
 -- The store test's answer: where the layers end as plain divisions, and what a caller learns from it.
-use mathlib.Core.Bool.{Bool, true, false, cond, true≢false}
+use mathlib.Core.Bool.{Bool, true, false, cond, _&&_, true≢false}
 use mathlib.Core.List.{List, [], _∷_, map}
+use mathlib.Core.Logic.{_≢_}
 use mathlib.Core.Path.{_≡_, refl, sym, ap, ap₂, _∙_}
 use Prim.Native.Nat.{ℕ, zero, suc, _+_, _/_, _^_, _≤_, _<_}
 use native.Mathlib.Omega.{arith}
+use borrow.Author.Tests.{le-leb, leb-true, eq-eqb, ne-eqb}
+use lib.Dec.{leb, eqb}
 use lib.ListN.{length, getD}
-use Rattle.store.specs.Layout.{top, maxCap, room, span, layerLen, layerEnd, storeLen, cap, isStore}
-use Rattle.store.specs.Shape.{endsOf, shapeOf, noShape, layoutOf}
+use Rattle.store.specs.Layout.{top, maxCap, isCap, room, span, layerLen, layerEnd, storeLen, cap, isStore}
+use Rattle.store.specs.Shape.{endsOf, shapeOf, noShape, measureOf, layoutOf}
 use Rattle.store.specs.declared.Shape.{Shape}
-use Rattle.store.proofs.Geometry.{IsStore, is-store, store-is, no-store, room-closed, end-top, end-step}
+use Rattle.store.proofs.Geometry.{IsStore, store-is, room-closed, end-top, end-step}
 
 -- "The length is exactly 2+L2+L1+L0: 5 at N=1 and 64, 6 at 65, 68 at 4,096, 70 at 4,097, 266,306 at 16,777,216."
 lengths : map storeLen (1 ∷ 64 ∷ 65 ∷ 4096 ∷ 4097 ∷ 16777216 ∷ []) ≡ 5 ∷ 5 ∷ 6 ∷ 68 ∷ 70 ∷ 266306 ∷ []
@@ -47,15 +50,42 @@ module _ (N : ℕ) (some : 1 ≤ N) (most : N ≤ maxCap) where
       let p4 : 1 ≡ layerEnd N 4 = sym end4 in
       λ i. record { ok = true; n = N; ends = p0 i ∷ p1 i ∷ p2 i ∷ p3 i ∷ p4 i ∷ [] }
 
--- ---- the test's answer is its definition
+-- ---- the answers are their definitions
 
-pub layout-some : (s : List ℕ) → IsStore s → layoutOf s ≡ shapeOf (cap s)
-unfolding layoutOf
-layout-some s h = rw (is-store h)
+pub measure-some : (N : ℕ) → 1 ≤ N → N ≤ maxCap → measureOf N ≡ shapeOf N
+unfolding measureOf isCap
+measure-some N some most = rw (le-leb 1 N some, le-leb N maxCap most)
 
-pub layout-none : (s : List ℕ) → (IsStore s → ⊥) → layoutOf s ≡ noShape
-unfolding layoutOf
-layout-none s h = rw (no-store h)
+pub measure-none : (N : ℕ) → (1 ≤ N → N ≤ maxCap → ⊥) → measureOf N ≡ noShape
+unfolding measureOf isCap
+measure-none N h = go (leb 1 N) (leb N maxCap) refl refl
+  where
+    go : (a b : Bool) → leb 1 N ≡ a → leb N maxCap ≡ b → cond (a && b) (shapeOf N) noShape ≡ noShape
+    go true true p q = absurd (h (leb-true 1 N p) (leb-true N maxCap q))
+    go true false p q = refl
+    go false b p q = refl
+
+-- the slice has the length that its shape names, or none
+pub layout-long : (s : List ℕ) → length s ≡ getD (measureOf (cap s) .ends) 0 0 → measureOf (cap s) ≡ layoutOf s
+unfolding measureOf layoutOf isStore
+layout-long s h = go (isCap (cap s)) refl
+  where
+    go : (b : Bool) → isCap (cap s) ≡ b
+        → cond b (shapeOf (cap s)) noShape ≡ cond (b && eqb (length s) (storeLen (cap s))) (shapeOf (cap s)) noShape
+    go true e =
+        let l : length s ≡ storeLen (cap s) = h ∙ ap (λ (b : Bool). getD (cond b (shapeOf (cap s)) noShape .ends) 0 0) e in
+        ap (λ (b : Bool). cond b (shapeOf (cap s)) noShape) (sym (eq-eqb (length s) (storeLen (cap s)) l))
+    go false e = refl
+
+pub layout-short : (s : List ℕ) → length s ≢ getD (measureOf (cap s) .ends) 0 0 → noShape ≡ layoutOf s
+unfolding measureOf layoutOf isStore
+layout-short s h = go (isCap (cap s)) refl
+  where
+    go : (b : Bool) → isCap (cap s) ≡ b → noShape ≡ cond (b && eqb (length s) (storeLen (cap s))) (shapeOf (cap s)) noShape
+    go true e =
+        let l : length s ≢ storeLen (cap s) = λ q. h (q ∙ sym (ap (λ (b : Bool). getD (cond b (shapeOf (cap s)) noShape .ends) 0 0) e)) in
+        ap (λ (b : Bool). cond b (shapeOf (cap s)) noShape) (sym (ne-eqb (length s) (storeLen (cap s)) l))
+    go false e = refl
 
 -- ---- what a caller learns
 

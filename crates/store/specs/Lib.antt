@@ -2,3 +2,4 @@ pub mod Layout
 pub mod Word
 pub mod Build
 pub mod Shape
+pub mod Answer

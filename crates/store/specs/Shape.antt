@@ -1,10 +1,8 @@
--- What the store test answers: whether the slice is a store, its capacity, and where its layers end.
+-- What measuring a capacity and testing a slice answer.
 use mathlib.Core.Bool.{Bool, true, false, cond}
 use mathlib.Core.List.{List, [], _∷_}
 use Prim.Native.Nat.{ℕ}
-use lib.Dec.{ltb}
-use lib.ListN.{getD}
-use Rattle.store.specs.Layout.{cap, isStore, layerEnd}
+use Rattle.store.specs.Layout.{cap, isCap, isStore, layerEnd}
 use Rattle.store.specs.declared.Shape.{Shape}
 
 -- layer k stands from `ends` k + 1 to `ends` k
@@ -16,6 +14,9 @@ shapeOf N = record { ok = true; n = N; ends = endsOf N }
 
 abbrev pub noShape : Shape
 noShape = record { ok = false; n = 0; ends = 0 ∷ 0 ∷ 0 ∷ 0 ∷ 0 ∷ [] }
+
+unfoldable pub measureOf : ℕ → Shape
+measureOf N = cond (isCap N) (shapeOf N) noShape
 
 unfoldable pub layoutOf : List ℕ → Shape
 layoutOf s = cond (isStore s) (shapeOf (cap s)) noShape
