@@ -1,5 +1,5 @@
 -- The layout's laws, over the layer number: which slices are stores, where the layers stand, and that they do not meet.
-use mathlib.Core.Bool.{Bool, true, false, _&&_, true≢false}
+use mathlib.Core.Bool.{Bool, true, false, _&&_}
 use mathlib.Core.List.{List}
 use mathlib.Core.Logic.{_≢_}
 use mathlib.Core.Path.{_≡_, refl, sym, ap, ap₂, _∙_}
@@ -10,6 +10,7 @@ use native.Mathlib.Omega.{arith}
 use lib.Dec.{leb, eqb}
 use lib.ListN.{length, getD, List·getD-eq-default}
 use borrow.Author.Tests.{le-leb, eq-eqb, leb-true, eqb-true}
+use Rattle.util.proofs.Same.{both}
 use Rattle.store.specs.Layout.{header, top, maxCap, isCap, words, room, layerLen, span, layerEnd, layerStart, storeLen, cap, isStore}
 
 -- ---- which slices are stores
@@ -18,10 +19,6 @@ pub record IsStore (s : List ℕ) : Type 0 where
   pub some : 1 ≤ cap s
   pub most : cap s ≤ maxCap
   pub long : length s ≡ storeLen (cap s)
-
-both : (a b : Bool) → (a && b) ≡ true → (a ≡ true) × (b ≡ true)
-both true b e = (refl, e)
-both false b e = absurd (true≢false (sym e))
 
 pub is-store : {s : List ℕ} → IsStore s → isStore s ≡ true
 unfolding isStore isCap

@@ -2,16 +2,17 @@
 use mathlib.Core.Bool.{Bool, true, false, cond, _&&_, true≢false}
 use mathlib.Core.List.{List, [], _∷_, map}
 use mathlib.Core.Logic.{_≢_}
-use mathlib.Core.Path.{_≡_, refl, sym, ap, ap₂, _∙_}
+use mathlib.Core.Path.{_≡_, refl, sym, ap, _∙_, subst}
 use Prim.Native.Nat.{ℕ, zero, suc, _+_, _/_, _^_, _≤_, _<_}
+use native.Mathlib.Numerals.{add-one}
 use native.Mathlib.Omega.{arith}
 use borrow.Author.Tests.{le-leb, leb-true, eq-eqb, ne-eqb}
 use lib.Dec.{leb, eqb}
 use lib.ListN.{length, getD}
-use Rattle.store.specs.Layout.{top, maxCap, isCap, room, span, layerLen, layerEnd, storeLen, cap, isStore}
-use Rattle.store.specs.Shape.{endsOf, shapeOf, noShape, measureOf, layoutOf}
+use Rattle.store.specs.Layout.{top, maxCap, isCap, room, span, layerLen, layerEnd, layerStart, storeLen, cap, isStore}
+use Rattle.store.specs.Shape.{endsOf, shapeOf, noShape, measureOf, layoutOf, Shaped}
 use Rattle.store.specs.declared.Shape.{Shape}
-use Rattle.store.proofs.Geometry.{IsStore, store-is, room-closed, end-top, end-step}
+use Rattle.store.proofs.Geometry.{is-store, store-is, room-closed, end-top, end-step, within}
 
 -- "The length is exactly 2+L2+L1+L0: 5 at N=1 and 64, 6 at 65, 68 at 4,096, 70 at 4,097, 266,306 at 16,777,216."
 lengths : map storeLen (1 ∷ 64 ∷ 65 ∷ 4096 ∷ 4097 ∷ 16777216 ∷ []) ≡ 5 ∷ 5 ∷ 6 ∷ 68 ∷ 70 ∷ 266306 ∷ []
@@ -89,39 +90,72 @@ layout-short s h = go (isCap (cap s)) refl
 
 -- ---- what a caller learns
 
-pub record Ready (s : List ℕ) (l : Shape) : Type 0 where
-  pub yes-store : isStore s ≡ true
-  pub is : IsStore s
-  pub n-is : l .n ≡ cap s
-  pub end-is : (k : ℕ) → k ≤ suc (top (cap s)) → getD (l .ends) k 0 ≡ layerEnd (cap s) k
-
-ends-at : (N k : ℕ) → k ≤ suc (top N) → getD (endsOf N) k 0 ≡ layerEnd N k
+ends-of : (N k : ℕ) → k ≤ suc (top N) → getD (endsOf N) k 0 ≡ layerEnd N k
 unfolding top
-ends-at N zero h = refl
-ends-at N (suc zero) h = refl
-ends-at N (suc (suc zero)) h = refl
-ends-at N (suc (suc (suc zero))) h = refl
-ends-at N (suc (suc (suc (suc zero)))) h = refl
-ends-at N (suc (suc (suc (suc (suc k))))) h = absurd (omega arith)
+ends-of N zero h = refl
+ends-of N (suc zero) h = refl
+ends-of N (suc (suc zero)) h = refl
+ends-of N (suc (suc (suc zero))) h = refl
+ends-of N (suc (suc (suc (suc zero)))) h = refl
+ends-of N (suc (suc (suc (suc (suc k))))) h = absurd (omega arith)
 
-pub ready : (s : List ℕ) (l : Shape) → l ≡ layoutOf s → l .ok ≡ true → Ready s l
+-- where a layer ends, by the shape
+pub end-at : {s : List ℕ} {l : Shape} → Shaped s l → (k : ℕ) → k ≤ suc (top (l .n)) → getD (l .ends) k 0 ≡ layerEnd (l .n) k
+end-at {l = l} z k h = ap (λ (x : Shape). getD (x .ends) k 0) (z .shape) ∙ ends-of (l .n) k h
+
+pub ends-length : {s : List ℕ} {l : Shape} → Shaped s l → length (l .ends) ≡ 5
+ends-length z = ap (λ (x : Shape). length (x .ends)) (z .shape)
+
+-- layer k as a part of its store, by the shape: where it starts and ends, and that it lies inside
+pub record Part (s : List ℕ) (l : Shape) (k : ℕ) : Type 0 where
+  pub starts : getD (l .ends) (k + 1) 0 ≡ layerStart (l .n) k
+  pub ends : getD (l .ends) k 0 ≡ layerEnd (l .n) k
+  pub size : layerEnd (l .n) k ≡ layerStart (l .n) k + layerLen (l .n) k
+  pub inside : layerEnd (l .n) k ≤ length s
+
+pub part : {s : List ℕ} {l : Shape} → Shaped s l → (k : ℕ) → k ≤ top (l .n) → Part s l k
+part {s} {l} z k h =
+    record {
+      starts = ap (λ (x : ℕ). getD (l .ends) x 0) (add-one k) ∙ end-at z (suc k) (omega arith);
+      ends = end-at z k (omega arith);
+      size = end-step (l .n) k h;
+      inside = omega (arith, within (l .n) k h, z .long);
+    }
+
+-- the shape stays while the length and word 0 do
+pub shape-kept : {s t : List ℕ} {l : Shape} → Shaped s l → length t ≡ length s → cap t ≡ cap s → Shaped t l
+shape-kept z long names = record { shape = z .shape; names = names ∙ z .names; some = z .some; most = z .most; long = long ∙ z .long }
+
+pub shaped-store : {s : List ℕ} {l : Shape} → Shaped s l → isStore s ≡ true
+shaped-store {s} {l} z =
+    is-store (record {
+      some = subst (λ (n : ℕ). 1 ≤ n) (sym (z .names)) (z .some);
+      most = subst (λ (n : ℕ). n ≤ maxCap) (sym (z .names)) (z .most);
+      long = z .long ∙ ap storeLen (sym (z .names));
+    })
+
+-- the test said yes, or no
+pub shaped : (s : List ℕ) (l : Shape) → l ≡ layoutOf s → l .ok ≡ true → Shaped s l
 unfolding layoutOf
-ready s l e o = go (isStore s) refl
+shaped s l e o = go (isStore s) refl
   where
-    go : (b : Bool) → isStore s ≡ b → Ready s l
+    go : (b : Bool) → isStore s ≡ b → Shaped s l
     go true h =
         let q : l ≡ shapeOf (cap s) = e ∙ rw h in
+        let n : cap s ≡ l .n = sym (ap (λ (x : Shape). x .n) q) in
+        let i = store-is h in
         record {
-          yes-store = h;
-          is = store-is h;
-          n-is = ap (λ (x : Shape). x .n) q;
-          end-is = λ k g. ap (λ (x : Shape). getD (x .ends) k 0) q ∙ ends-at (cap s) k g;
+          shape = q ∙ ap shapeOf n;
+          names = n;
+          some = subst (λ (x : ℕ). 1 ≤ x) n (i .some);
+          most = subst (λ (x : ℕ). x ≤ maxCap) n (i .most);
+          long = i .long ∙ ap storeLen n;
         }
     go false h = let q : l ≡ noShape = e ∙ rw h in absurd (true≢false (sym o ∙ ap (λ (x : Shape). x .ok) q))
 
-pub unready : (s : List ℕ) (l : Shape) → l ≡ layoutOf s → l .ok ≡ false → isStore s ≡ false
+pub not-store : (s : List ℕ) (l : Shape) → l ≡ layoutOf s → l .ok ≡ false → isStore s ≡ false
 unfolding layoutOf
-unready s l e o = go (isStore s) refl
+not-store s l e o = go (isStore s) refl
   where
     go : (b : Bool) → isStore s ≡ b → isStore s ≡ false
     go true h = let q : l ≡ shapeOf (cap s) = e ∙ rw h in absurd (true≢false (sym (ap (λ (x : Shape). x .ok) q) ∙ o))

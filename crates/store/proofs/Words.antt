@@ -8,6 +8,7 @@ use native.Mathlib.Nat.{pow-suc, div-one, div-div-eq-div-mul}
 use native.Mathlib.Omega.{arith}
 use lib.Bits.{bitAnd}
 use lib.ListN.{length, getD, set, take, drop, length-set, length-take, List·getD-eq-default}
+use lib.Pow.{shr-shr}
 use lib.Seq.{getD-set-same, getD-set-other, getD-take, getD-drop}
 use Rattle.util.specs.Word.{bit}
 use Rattle.util.proofs.Bits.{bit-lt, bit-of-zero, bit-high, test-on, test-off}
@@ -83,6 +84,14 @@ unfolding anc
 anc-closed i zero = sym (div-one i)
 anc-closed i (suc k) =
     ap (λ (x : ℕ). x / 64) (anc-closed i k) ∙ div-div-eq-div-mul i (64 ^ k) 64 ∙ ap (λ (x : ℕ). i / x) (sym (pow-suc 64 k))
+
+-- the same by the crate's shifts: 6 bits a layer
+pub anc-shift : (i k : ℕ) → anc i k ≡ i / 2 ^ (6 * k)
+unfolding anc
+anc-shift i zero = sym (div-one i)
+anc-shift i (suc k) =
+    let e : 6 * k + 6 ≡ 6 * suc k = omega arith in
+    ap (λ (x : ℕ). x / 64) (anc-shift i k) ∙ shr-shr i (6 * k) 6 ∙ ap (λ (x : ℕ). i / 2 ^ x) e
 
 -- ---- one word written
 

@@ -1,8 +1,10 @@
 -- What measuring a capacity and testing a slice answer.
 use mathlib.Core.Bool.{Bool, true, false, cond}
 use mathlib.Core.List.{List, [], _∷_}
-use Prim.Native.Nat.{ℕ}
-use Rattle.store.specs.Layout.{cap, isCap, isStore, layerEnd}
+use mathlib.Core.Path.{_≡_}
+use Prim.Native.Nat.{ℕ, _≤_}
+use lib.ListN.{length}
+use Rattle.store.specs.Layout.{maxCap, cap, isCap, isStore, layerEnd, storeLen}
 use Rattle.store.specs.declared.Shape.{Shape}
 
 -- layer k stands from `ends` k + 1 to `ends` k
@@ -20,3 +22,11 @@ measureOf N = cond (isCap N) (shapeOf N) noShape
 
 unfoldable pub layoutOf : List ℕ → Shape
 layoutOf s = cond (isStore s) (shapeOf (cap s)) noShape
+
+-- s is a store and l its shape: what the private steps of every crate ask once the test has said so
+pub record Shaped (s : List ℕ) (l : Shape) : Type 0 where
+  pub shape : l ≡ shapeOf (l .n)
+  pub names : cap s ≡ l .n
+  pub some : 1 ≤ l .n
+  pub most : l .n ≤ maxCap
+  pub long : length s ≡ storeLen (l .n)

@@ -1,5 +1,6 @@
 pub mod Bits
 pub mod Places
+pub mod Same
 pub mod Tally
 pub mod Descent
 pub mod Average

@@ -1,7 +1,9 @@
 -- Words, bit by bit. A word is a number below 2 ^ 64; its bits are numbered from 0, the lowest, to 63.
+use mathlib.Core.Bool.{Bool, true, false, _&&_}
 use mathlib.Core.List.{List, [], _∷_}
 use Prim.Native.Nat.{ℕ, zero, suc, _/_, _%_, _^_, _≤_}
 use lib.Count.{onesIn}
+use lib.Dec.{eqb}
 
 -- bit b of w: 0 or 1
 unfoldable pub bit : ℕ → ℕ → ℕ
@@ -29,3 +31,10 @@ bits w = places (bit w) 0 64
 abbrev pub Rising : ℕ → List ℕ → Type 0
 Rising b [] = Unit {0}
 Rising b (x ∷ l) = (b ≤ x) × Rising (suc x) l
+
+-- whether two lists are equal
+unfoldable pub same : List ℕ → List ℕ → Bool
+same [] [] = true
+same [] (b ∷ t) = false
+same (a ∷ s) [] = false
+same (a ∷ s) (b ∷ t) = eqb a b && same s t

@@ -1,0 +1,44 @@
+-- What each call on one store does, for all inputs. Document 01, "Calls on one store", and its refusals.
+use mathlib.Core.Bool.{Bool, true, false, cond, _&&_}
+use mathlib.Core.List.{List, [], _∷_}
+use Prim.Native.Nat.{ℕ}
+use lib.Dec.{ltb}
+use Rattle.util.specs.Outcome.{Outcome}
+use Rattle.store.specs.Answer.{says, does, refuses}
+use Rattle.store.specs.Layout.{cap, isStore}
+use Rattle.bitset.specs.Edit.{holds, edits, addLayers, removeLayers}
+
+-- "`contains` .. for an id at or past N answer[s] no"
+unfoldable pub containsOf : List ℕ → ℕ → Outcome (Unit {0})
+containsOf s i = cond (isStore s) (says (ltb i (cap s) && holds (cap s) s i) tt) (refuses 2 tt)
+
+-- "`add` answers whether the id was held already." Refusal 3: "an id at or past N".
+unfoldable pub addOf : List ℕ → ℕ → Outcome (List ℕ)
+addOf s i =
+    let N = cap s in
+    cond (isStore s)
+    (cond (ltb i N) (says (holds N s i) (edits true N s i (addLayers N s i))) (refuses 3 s))
+    (refuses 2 s)
+
+-- "`remove` answers whether it was held. .. for an id at or past N answer[s] no and change[s] nothing."
+unfoldable pub removeOf : List ℕ → ℕ → Outcome (List ℕ)
+removeOf s i =
+    let N = cap s in
+    cond (isStore s)
+    (cond (ltb i N) (says (holds N s i) (edits false N s i (removeLayers N s i))) (says false s))
+    (refuses 2 s)
+
+-- "Adding a list of ids checks every id first, then adds all and answers only that it did; an empty list changes nothing."
+unfoldable pub allBelow : ℕ → List ℕ → Bool
+allBelow N [] = true
+allBelow N (i ∷ l) = ltb i N && allBelow N l
+
+unfoldable pub addAll : ℕ → List ℕ → List ℕ → List ℕ
+addAll N s [] = s
+addAll N s (i ∷ l) = addAll N (edits true N s i (addLayers N s i)) l
+
+unfoldable pub addListOf : List ℕ → List ℕ → Outcome (List ℕ)
+addListOf s ids =
+    cond (isStore s)
+    (cond (allBelow (cap s) ids) (does (addAll (cap s) s ids)) (refuses 3 s))
+    (refuses 2 s)
