@@ -1,3 +1,4 @@
 pub mod Edits
 pub mod Moves
 pub mod Steps
+pub mod Answers

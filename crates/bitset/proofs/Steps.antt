@@ -13,12 +13,14 @@ use lib.Dec.{eqb}
 use lib.ListN.{length, getD, set}
 use Rattle.util.specs.Word.{bit}
 use Rattle.util.proofs.Bits.{test-on, test-off, bit-lt}
-use Rattle.store.specs.Layout.{top, room, layerLen, layerStart, layerEnd}
+use Rattle.store.specs.Layout.{top, room, layerLen, layerStart, layerEnd, cap}
 use Rattle.store.specs.Word.{word, anc, put}
 use Rattle.store.specs.declared.Shape.{Shape}
-use Rattle.store.proofs.Tested.{Part, part}
+use Rattle.store.proofs.Tested.{Part, part, shape-kept}
 use Rattle.store.proofs.Words.{word-in, word-put-same, place-in, anc-in, anc-shift}
-use Rattle.bitset.specs.Edit.{change, edit, Placed, Edited}
+use Rattle.bitset.specs.Edit.{change, edit, edits, left, climb, Placed, Edited}
+use Rattle.bitset.proofs.Edits.{length-edits, cap-edits, word-edits-same}
+use Rattle.bitset.proofs.Moves.{climb-on, climb-stop, climb-top}
 
 -- the code's test of a bit is the definition's
 pub tested : (w b : ℕ) → not (eqb (bitAnd w (2 ^ b)) 0) ≡ eqb (bit w b) 1
@@ -85,3 +87,46 @@ module _ {s : List ℕ} {l : Shape} {i k : ℕ} (p : Placed s l i k) (a e q : �
         answer = v ∙ sym (ap (λ (x : List ℕ). word (l .n) x k (anc i k / 64)) m
             ∙ word-put-same (l .n) s (p .store .long) k (anc i k / 64) (change on (word (l .n) s k (anc i k / 64)) (anc i k % 64)) (p .layer) (spot p .in-layer));
       }
+
+-- ---- a run of steps: the m lowest layers are edited
+
+module _ (on : Bool) {s : List ℕ} {l : Shape} {i : ℕ} (p : Placed s l i 0) where
+  -- the next step may be made
+  pub placed : (k : ℕ) (t : List ℕ) → k ≤ top (l .n) → t ≡ edits on (l .n) s i k → Placed t l i k
+  placed k t h e =
+      record {
+        store = shape-kept (p .store) (ap length e ∙ length-edits on (l .n) s i k) (ap cap e ∙ cap-edits on (l .n) s i k);
+        below = p .below;
+        layer = h;
+      }
+
+  -- and makes it one more
+  pub one-more : (k : ℕ) (t u : List ℕ) (r : ℕ) → t ≡ edits on (l .n) s i k → Edited on t l i k u r → u ≡ edits on (l .n) s i (suc k)
+  unfolding edits
+  one-more k t u r e d = d .memory ∙ ap (λ (x : List ℕ). edit on (l .n) x k (anc i k)) e
+
+  -- the word that it leaves
+  pub leaves : (k : ℕ) (t u : List ℕ) (r : ℕ) → k ≤ top (l .n) → t ≡ edits on (l .n) s i k → Edited on t l i k u r
+      → r ≡ change on (word (l .n) s k (anc i k / 64)) (anc i k % 64)
+  leaves k t u r h e d =
+      d .answer ∙ ap (λ (x : List ℕ). word (l .n) x k (anc i k / 64)) (one-more k t u r e d)
+      ∙ word-edits-same on (l .n) s i (p .store .long) (p .below) (suc k) k (omega arith) (omega arith)
+
+-- ---- the climb: the layers below k kept no bit
+
+climb-past : (N : ℕ) (s : List ℕ) (i k d : ℕ) → ((j : ℕ) → j < k → left N s i j ≡ 0) → climb N s i 0 (k + d) ≡ climb N s i k d
+climb-past N s i zero d h = let e : 0 + d ≡ d = omega arith in ap (climb N s i 0) e
+climb-past N s i (suc k) d h =
+    let e : suc k + d ≡ k + suc d = omega arith in
+    ap (climb N s i 0) e ∙ climb-past N s i k (suc d) (λ j l. h j (omega arith)) ∙ climb-on N s i k d (h k (omega arith))
+
+-- it ends at layer k, which keeps one, or above the top
+pub climb-ends : (N : ℕ) (s : List ℕ) (i k : ℕ) → k ≤ top N → ((j : ℕ) → j < k → left N s i j ≡ 0) → left N s i k ≢ 0 → climb N s i 0 (top N) ≡ suc k
+climb-ends N s i k h zeros n =
+    let e : top N ≡ k + (top N - k) = omega arith in
+    ap (climb N s i 0) e ∙ climb-past N s i k (top N - k) zeros ∙ climb-stop N s i k (top N - k) n
+
+pub climb-all : (N : ℕ) (s : List ℕ) (i : ℕ) → ((j : ℕ) → j < suc (top N) → left N s i j ≡ 0) → climb N s i 0 (top N) ≡ suc (top N)
+climb-all N s i zeros =
+    let e : top N ≡ top N + 0 = omega arith in
+    ap (climb N s i 0) e ∙ climb-past N s i (top N) 0 (λ j l. zeros j (omega arith)) ∙ climb-top N s i (top N)

@@ -1,0 +1,132 @@
+-- What each way out of the code answers is what the definition answers there.
+use mathlib.Core.Bool.{Bool, true, false, cond, _&&_}
+use mathlib.Core.List.{List, [], _∷_}
+use mathlib.Core.Logic.{_≢_}
+use mathlib.Core.Path.{_≡_, refl, sym, ap, ap₂, _∙_, subst}
+use Prim.Native.Nat.{ℕ, zero, suc, _+_, _/_, _%_, _≤_, _<_}
+use native.Mathlib.Omega.{arith}
+use borrow.Author.Tests.{lt-ltb, le-ltb, eqb-true, eqb-false}
+use lib.Dec.{ltb, eqb}
+use lib.ListN.{length, getD, drop}
+use lib.Seq.{drop-cons, drop-length}
+use Rattle.util.specs.Outcome.{Outcome, Settled, settled}
+use Rattle.util.specs.Word.{bit}
+use Rattle.store.specs.Answer.{askedPaper, didPaper, says, does, refuses}
+use Rattle.store.specs.Layout.{top, cap, isStore}
+use Rattle.store.specs.Shape.{Shaped}
+use Rattle.store.specs.Word.{word, on, anc}
+use Rattle.store.specs.declared.Asked.the-variants.{Is, Refused as AskedRefused}
+use Rattle.store.specs.declared.Did.the-variants.{Done, Refused as DidRefused}
+use Rattle.store.specs.declared.Shape.{Shape}
+use Rattle.store.proofs.Tested.{shaped-store}
+use Rattle.bitset.specs.Calls.{containsOf, addOf, removeOf, allBelow, addAll, addListOf}
+use Rattle.bitset.specs.Edit.{holds, edits, addLayers, climb, removeLayers, Moved}
+use Rattle.bitset.proofs.Moves.{add-none, add-all, add-one-layer, remove-none, remove-some}
+
+-- the code's test of the id's bit in its word
+pub has-is : (N : ℕ) (s : List ℕ) (i w : ℕ) (r : Bool) → w ≡ word N s 0 (i / 64) → r ≡ eqb (bit w (i % 64)) 1 → r ≡ holds N s i
+unfolding on
+has-is N s i w r e q = q ∙ ap (λ (x : ℕ). eqb (bit x (i % 64)) 1) e
+
+-- ---- the private steps
+
+module _ {s : List ℕ} {l : Shape} {i : ℕ} where
+  pub kept-held : holds (l .n) s i ≡ true → Moved true s l i (addLayers (l .n) s i) s true
+  unfolding edits
+  kept-held h = record { memory = ap (edits true (l .n) s i) (sym (add-none (l .n) s i (eqb-true _ 1 h))); answer = sym h }
+
+  pub set-all : {t : List ℕ} → holds (l .n) s i ≡ false → word (l .n) s 0 (i / 64) ≡ 0 → t ≡ edits true (l .n) s i (suc (top (l .n)))
+      → Moved true s l i (addLayers (l .n) s i) t false
+  set-all h w e = record { memory = e ∙ ap (edits true (l .n) s i) (sym (add-all (l .n) s i (eqb-false _ 1 h) w)); answer = sym h }
+
+  pub set-one : {t : List ℕ} → holds (l .n) s i ≡ false → word (l .n) s 0 (i / 64) ≢ 0 → t ≡ edits true (l .n) s i 1
+      → Moved true s l i (addLayers (l .n) s i) t false
+  set-one h w e = record { memory = e ∙ ap (edits true (l .n) s i) (sym (add-one-layer (l .n) s i (eqb-false _ 1 h) w)); answer = sym h }
+
+  pub kept-absent : holds (l .n) s i ≡ false → Moved false s l i (removeLayers (l .n) s i) s false
+  unfolding edits
+  kept-absent h = record { memory = ap (edits false (l .n) s i) (sym (remove-none (l .n) s i (eqb-false _ 1 h))); answer = sym h }
+
+  pub gone : {t : List ℕ} → holds (l .n) s i ≡ true → t ≡ edits false (l .n) s i (climb (l .n) s i 0 (top (l .n)))
+      → Moved false s l i (removeLayers (l .n) s i) t true
+  gone h e = record { memory = e ∙ ap (edits false (l .n) s i) (sym (remove-some (l .n) s i (eqb-true _ 1 h))); answer = sym h }
+
+-- ---- one id
+
+module _ (s : List ℕ) (i : ℕ) where
+  pub contains-2 : isStore s ≡ false → Settled askedPaper (containsOf s i) (AskedRefused 2) tt
+  unfolding containsOf
+  contains-2 h = settled (rw h)
+
+  pub add-2 : isStore s ≡ false → Settled askedPaper (addOf s i) (AskedRefused 2) s
+  unfolding addOf
+  add-2 h = settled (rw h)
+
+  pub remove-2 : isStore s ≡ false → Settled askedPaper (removeOf s i) (AskedRefused 2) s
+  unfolding removeOf
+  remove-2 h = settled (rw h)
+
+  module _ (l : Shape) (z : Shaped s l) where
+    below : i < l .n → ltb i (cap s) ≡ true
+    below h = lt-ltb i (cap s) (omega (arith, z .names))
+
+    past : l .n ≤ i → ltb i (cap s) ≡ false
+    past h = le-ltb i (cap s) (omega (arith, z .names))
+
+    pub contains-past : l .n ≤ i → Settled askedPaper (containsOf s i) (Is false) tt
+    unfolding containsOf
+    contains-past h = settled (rw (shaped-store z, past h))
+
+    pub contains-is : i < l .n → (r : Bool) → r ≡ holds (l .n) s i → Settled askedPaper (containsOf s i) (Is r) tt
+    unfolding containsOf
+    contains-is h r e = settled (rw (shaped-store z, below h, z .names, ← e))
+
+    pub add-3 : l .n ≤ i → Settled askedPaper (addOf s i) (AskedRefused 3) s
+    unfolding addOf
+    add-3 h = settled (rw (shaped-store z, past h))
+
+    pub add-is : i < l .n → (r : Bool) (t : List ℕ) → Moved true s l i (addLayers (l .n) s i) t r → Settled askedPaper (addOf s i) (Is r) t
+    unfolding addOf
+    add-is h r t m = settled (rw (shaped-store z, below h, z .names, ← m .answer, ← m .memory))
+
+    pub remove-past : l .n ≤ i → Settled askedPaper (removeOf s i) (Is false) s
+    unfolding removeOf
+    remove-past h = settled (rw (shaped-store z, past h))
+
+    pub remove-is : i < l .n → (r : Bool) (t : List ℕ) → Moved false s l i (removeLayers (l .n) s i) t r → Settled askedPaper (removeOf s i) (Is r) t
+    unfolding removeOf
+    remove-is h r t m = settled (rw (shaped-store z, below h, z .names, ← m .answer, ← m .memory))
+
+-- ---- a list of ids
+
+-- a turn of the loops: the id at place k, and those after it
+pub below-turn : (N : ℕ) (ids : List ℕ) (k : ℕ) → k < length ids → allBelow N (drop k ids) ≡ (ltb (getD ids k 0) N && allBelow N (drop (suc k) ids))
+unfolding allBelow
+below-turn N ids k h = ap (allBelow N) (drop-cons ids k 0 h)
+
+pub below-end : (N : ℕ) (ids : List ℕ) (k : ℕ) → k ≡ length ids → allBelow N (drop k ids) ≡ true
+unfolding allBelow
+below-end N ids k h = ap (allBelow N) (ap (λ (x : ℕ). drop x ids) h ∙ drop-length ids)
+
+pub add-turn : (N : ℕ) (s ids : List ℕ) (k : ℕ) → k < length ids
+    → addAll N s (drop k ids) ≡ addAll N (edits true N s (getD ids k 0) (addLayers N s (getD ids k 0))) (drop (suc k) ids)
+unfolding addAll
+add-turn N s ids k h = ap (addAll N s) (drop-cons ids k 0 h)
+
+pub add-end : (N : ℕ) (s ids : List ℕ) (k : ℕ) → k ≡ length ids → addAll N s (drop k ids) ≡ s
+unfolding addAll
+add-end N s ids k h = ap (addAll N s) (ap (λ (x : ℕ). drop x ids) h ∙ drop-length ids)
+
+module _ (s ids : List ℕ) where
+  pub list-2 : isStore s ≡ false → Settled didPaper (addListOf s ids) (DidRefused 2) s
+  unfolding addListOf
+  list-2 h = settled (rw h)
+
+  module _ (l : Shape) (z : Shaped s l) where
+    pub list-3 : allBelow (l .n) ids ≡ false → Settled didPaper (addListOf s ids) (DidRefused 3) s
+    unfolding addListOf
+    list-3 h = settled (rw (shaped-store z, z .names, h))
+
+    pub list-done : (t : List ℕ) → allBelow (l .n) ids ≡ true → t ≡ addAll (l .n) s ids → Settled didPaper (addListOf s ids) Done t
+    unfolding addListOf
+    list-done t h e = settled (rw (shaped-store z, z .names, h, ← e))

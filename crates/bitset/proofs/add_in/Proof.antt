@@ -1,0 +1,71 @@
+-- `bitset::add_in` meets its contract: no layer, layer 0, or all of them are written. Assumes nothing.
+use mathlib.Core.Path.{_≡_, sym, _∙_}
+use Prim.Native.Nat.{_≤_}
+use native.Mathlib.Omega.{arith}
+use borrow.Author.Needs.{needs}
+use Rattle.store.specs.Layout.{top}
+use Rattle.bitset.specs.Edit.{holds}
+use Rattle.bitset.proofs.Answers.{has-is, kept-held, set-all, set-one}
+use Rattle.bitset.proofs.add_in.Statement.{statement}
+use Rattle.bitset.proofs.add_in.Tie as tie
+
+word0-requires : tie.Need-word0-requires
+word0-requires c κs = c .before .before .pre
+
+has-requires : tie.Need-has-requires
+has-requires c κs = search needs
+
+-- the code's test is whether the id is held
+held : (c : tie.After-has) → let s = c .before .before .before .before in c .has .result ≡ holds (s .args .shape .n) (s .args .store .now) (s .args .id)
+held c =
+    let s = c .before .before .before .before .args in
+    has-is (s .shape .n) (s .store .now) (s .id) (c .before .word0 .result) (c .has .result) (c .before .word0 .ensures) (c .has .ensures)
+
+same-length : tie.Need-same-length
+same-length c = search needs
+
+returns : tie.Need-returns
+returns c = kept-held (sym (held (c .before)) ∙ c .if1 .taken)
+
+mark-requires : tie.Need-mark-requires
+unfolding top
+mark-requires c κs = (c .before .before .before .before .before .before .before .pre, omega arith)
+
+same-length-2 : tie.Need-same-length-2
+same-length-2 c = search needs
+
+returns-2 : tie.Need-returns-2
+unfolding top
+returns-2 c =
+    let m = c .before .before in
+    let t = m .before .before in
+    let n = t .before in
+    set-all (sym (held (n .before)) ∙ n .if1 .left) (sym (n .before .before .word0 .ensures) ∙ t .if2 .taken) (m .mark .ensures)
+
+mark-requires-2 : tie.Need-mark-requires-2
+mark-requires-2 c κs = (c .before .before .before .before .before .before .before .pre, omega arith)
+
+same-length-3 : tie.Need-same-length-3
+same-length-3 c = search needs
+
+returns-3 : tie.Need-returns-3
+returns-3 c =
+    let m = c .before .before in
+    let t = m .before .before in
+    let n = t .before in
+    set-one (sym (held (n .before)) ∙ n .if1 .left) (λ e. t .if2 .left (n .before .before .word0 .ensures ∙ e)) (m .mark2 .ensures)
+
+pub add-in-spec : {M : Type 1} → statement M
+add-in-spec =
+    tie.close
+    (tie.spec
+    word0-requires
+    has-requires
+    same-length
+    returns
+    mark-requires
+    same-length-2
+    returns-2
+    mark-requires-2
+    same-length-3
+    returns-3)
