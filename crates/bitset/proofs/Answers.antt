@@ -12,13 +12,11 @@ use lib.Seq.{drop-cons, drop-length}
 use Rattle.util.specs.Outcome.{Outcome, Settled, settled}
 use Rattle.util.specs.Word.{bit}
 use Rattle.store.specs.Answer.{askedPaper, didPaper, says, does, refuses}
-use Rattle.store.specs.Layout.{top, cap, isStore}
-use Rattle.store.specs.Shape.{Shaped}
+use Rattle.store.specs.Layout.{top, cap, isStore, StoreOf}
 use Rattle.store.specs.Word.{word, on, anc}
 use Rattle.store.specs.declared.Asked.the-variants.{Is, Refused as AskedRefused}
 use Rattle.store.specs.declared.Did.the-variants.{Done, Refused as DidRefused}
-use Rattle.store.specs.declared.Shape.{Shape}
-use Rattle.store.proofs.Tested.{shaped-store}
+use Rattle.store.proofs.Geometry.{is-store}
 use Rattle.bitset.specs.Calls.{containsOf, addOf, removeOf, allBelow, addAll, addListOf}
 use Rattle.bitset.specs.Edit.{holds, edits, addLayers, climb, removeLayers, Moved}
 use Rattle.bitset.proofs.Moves.{add-none, add-all, add-one-layer, remove-none, remove-some}
@@ -30,26 +28,26 @@ has-is N s i w r e q = q ∙ ap (λ (x : ℕ). eqb (bit x (i % 64)) 1) e
 
 -- ---- the private steps
 
-module _ {s : List ℕ} {l : Shape} {i : ℕ} where
-  pub kept-held : holds (l .n) s i ≡ true → Moved true s l i (addLayers (l .n) s i) s true
+module _ {s : List ℕ} {N i : ℕ} where
+  pub kept-held : holds N s i ≡ true → Moved true s N i (addLayers N s i) s true
   unfolding edits
-  kept-held h = record { memory = ap (edits true (l .n) s i) (sym (add-none (l .n) s i (eqb-true _ 1 h))); answer = sym h }
+  kept-held h = record { memory = ap (edits true N s i) (sym (add-none N s i (eqb-true _ 1 h))); answer = sym h }
 
-  pub set-all : {t : List ℕ} → holds (l .n) s i ≡ false → word (l .n) s 0 (i / 64) ≡ 0 → t ≡ edits true (l .n) s i (suc (top (l .n)))
-      → Moved true s l i (addLayers (l .n) s i) t false
-  set-all h w e = record { memory = e ∙ ap (edits true (l .n) s i) (sym (add-all (l .n) s i (eqb-false _ 1 h) w)); answer = sym h }
+  pub set-all : {t : List ℕ} → holds N s i ≡ false → word N s 0 (i / 64) ≡ 0 → t ≡ edits true N s i (suc (top N))
+      → Moved true s N i (addLayers N s i) t false
+  set-all h w e = record { memory = e ∙ ap (edits true N s i) (sym (add-all N s i (eqb-false _ 1 h) w)); answer = sym h }
 
-  pub set-one : {t : List ℕ} → holds (l .n) s i ≡ false → word (l .n) s 0 (i / 64) ≢ 0 → t ≡ edits true (l .n) s i 1
-      → Moved true s l i (addLayers (l .n) s i) t false
-  set-one h w e = record { memory = e ∙ ap (edits true (l .n) s i) (sym (add-one-layer (l .n) s i (eqb-false _ 1 h) w)); answer = sym h }
+  pub set-one : {t : List ℕ} → holds N s i ≡ false → word N s 0 (i / 64) ≢ 0 → t ≡ edits true N s i 1
+      → Moved true s N i (addLayers N s i) t false
+  set-one h w e = record { memory = e ∙ ap (edits true N s i) (sym (add-one-layer N s i (eqb-false _ 1 h) w)); answer = sym h }
 
-  pub kept-absent : holds (l .n) s i ≡ false → Moved false s l i (removeLayers (l .n) s i) s false
+  pub kept-absent : holds N s i ≡ false → Moved false s N i (removeLayers N s i) s false
   unfolding edits
-  kept-absent h = record { memory = ap (edits false (l .n) s i) (sym (remove-none (l .n) s i (eqb-false _ 1 h))); answer = sym h }
+  kept-absent h = record { memory = ap (edits false N s i) (sym (remove-none N s i (eqb-false _ 1 h))); answer = sym h }
 
-  pub gone : {t : List ℕ} → holds (l .n) s i ≡ true → t ≡ edits false (l .n) s i (climb (l .n) s i 0 (top (l .n)))
-      → Moved false s l i (removeLayers (l .n) s i) t true
-  gone h e = record { memory = e ∙ ap (edits false (l .n) s i) (sym (remove-some (l .n) s i (eqb-true _ 1 h))); answer = sym h }
+  pub gone : {t : List ℕ} → holds N s i ≡ true → t ≡ edits false N s i (climb N s i 0 (top N))
+      → Moved false s N i (removeLayers N s i) t true
+  gone h e = record { memory = e ∙ ap (edits false N s i) (sym (remove-some N s i (eqb-true _ 1 h))); answer = sym h }
 
 -- ---- one id
 
@@ -66,36 +64,36 @@ module _ (s : List ℕ) (i : ℕ) where
   unfolding removeOf
   remove-2 h = settled (rw h)
 
-  module _ (l : Shape) (z : Shaped s l) where
-    below : i < l .n → ltb i (cap s) ≡ true
+  module _ (N : ℕ) (z : StoreOf N s) where
+    below : i < N → ltb i (cap s) ≡ true
     below h = lt-ltb i (cap s) (omega (arith, z .names))
 
-    past : l .n ≤ i → ltb i (cap s) ≡ false
+    past : N ≤ i → ltb i (cap s) ≡ false
     past h = le-ltb i (cap s) (omega (arith, z .names))
 
-    pub contains-past : l .n ≤ i → Settled askedPaper (containsOf s i) (Is false) tt
+    pub contains-past : N ≤ i → Settled askedPaper (containsOf s i) (Is false) tt
     unfolding containsOf
-    contains-past h = settled (rw (shaped-store z, past h))
+    contains-past h = settled (rw (is-store z, past h))
 
-    pub contains-is : i < l .n → (r : Bool) → r ≡ holds (l .n) s i → Settled askedPaper (containsOf s i) (Is r) tt
+    pub contains-is : i < N → (r : Bool) → r ≡ holds N s i → Settled askedPaper (containsOf s i) (Is r) tt
     unfolding containsOf
-    contains-is h r e = settled (rw (shaped-store z, below h, z .names, ← e))
+    contains-is h r e = settled (rw (is-store z, below h, z .names, ← e))
 
-    pub add-3 : l .n ≤ i → Settled askedPaper (addOf s i) (AskedRefused 3) s
+    pub add-3 : N ≤ i → Settled askedPaper (addOf s i) (AskedRefused 3) s
     unfolding addOf
-    add-3 h = settled (rw (shaped-store z, past h))
+    add-3 h = settled (rw (is-store z, past h))
 
-    pub add-is : i < l .n → (r : Bool) (t : List ℕ) → Moved true s l i (addLayers (l .n) s i) t r → Settled askedPaper (addOf s i) (Is r) t
+    pub add-is : i < N → (r : Bool) (t : List ℕ) → Moved true s N i (addLayers N s i) t r → Settled askedPaper (addOf s i) (Is r) t
     unfolding addOf
-    add-is h r t m = settled (rw (shaped-store z, below h, z .names, ← m .answer, ← m .memory))
+    add-is h r t m = settled (rw (is-store z, below h, z .names, ← m .answer, ← m .memory))
 
-    pub remove-past : l .n ≤ i → Settled askedPaper (removeOf s i) (Is false) s
+    pub remove-past : N ≤ i → Settled askedPaper (removeOf s i) (Is false) s
     unfolding removeOf
-    remove-past h = settled (rw (shaped-store z, past h))
+    remove-past h = settled (rw (is-store z, past h))
 
-    pub remove-is : i < l .n → (r : Bool) (t : List ℕ) → Moved false s l i (removeLayers (l .n) s i) t r → Settled askedPaper (removeOf s i) (Is r) t
+    pub remove-is : i < N → (r : Bool) (t : List ℕ) → Moved false s N i (removeLayers N s i) t r → Settled askedPaper (removeOf s i) (Is r) t
     unfolding removeOf
-    remove-is h r t m = settled (rw (shaped-store z, below h, z .names, ← m .answer, ← m .memory))
+    remove-is h r t m = settled (rw (is-store z, below h, z .names, ← m .answer, ← m .memory))
 
 -- ---- a list of ids
 
@@ -122,11 +120,11 @@ module _ (s ids : List ℕ) where
   unfolding addListOf
   list-2 h = settled (rw h)
 
-  module _ (l : Shape) (z : Shaped s l) where
-    pub list-3 : allBelow (l .n) ids ≡ false → Settled didPaper (addListOf s ids) (DidRefused 3) s
+  module _ (N : ℕ) (z : StoreOf N s) where
+    pub list-3 : allBelow N ids ≡ false → Settled didPaper (addListOf s ids) (DidRefused 3) s
     unfolding addListOf
-    list-3 h = settled (rw (shaped-store z, z .names, h))
+    list-3 h = settled (rw (is-store z, z .names, h))
 
-    pub list-done : (t : List ℕ) → allBelow (l .n) ids ≡ true → t ≡ addAll (l .n) s ids → Settled didPaper (addListOf s ids) Done t
+    pub list-done : (t : List ℕ) → allBelow N ids ≡ true → t ≡ addAll N s ids → Settled didPaper (addListOf s ids) Done t
     unfolding addListOf
-    list-done t h e = settled (rw (shaped-store z, z .names, h, ← e))
+    list-done t h e = settled (rw (is-store z, z .names, h, ← e))

@@ -7,44 +7,13 @@ use Prim.Native.Nat.{ℕ, zero, suc, _+_, _-_, _*_, _/_, _%_, _^_, _≤_, _<_}
 use native.Mathlib.Decide.{decLt, ℕ-discrete}
 use native.Mathlib.Nat.{eq-or-lt-of-le, le-of-suc-le-suc}
 use native.Mathlib.Omega.{arith}
-use lib.Bits.{bitOr, bitAnd, or-lt, and-le-l}
 use lib.ListN.{length, getD}
-use lib.Pow.{pow-lt}
-use Rattle.util.specs.Word.{bit}
-use Rattle.util.proofs.Bits.{flip, bit-of-zero, or-pow-same, or-pow-other, or-pow-some, clear-same, clear-other}
+use Rattle.util.specs.Word.{bit, change}
+use Rattle.util.proofs.Bits.{change-same, change-other}
 use Rattle.store.specs.Layout.{header, top, room, layerLen, storeLen, cap}
 use Rattle.store.specs.Word.{word, on, anc, put, Sound}
 use Rattle.store.proofs.Words.{place-in, anc-in, on-word, length-put, header-put, word-put-same, word-put-other, on-put-same, on-put-other}
-use Rattle.bitset.specs.Edit.{change, edit, edits}
-
--- ---- one word
-
-module _ (b : Bool) (w t : ℕ) (h : t < 64) where
-  pub change-same : bit (change b w t) t ≡ cond b 1 0
-  unfolding change
-  change-same = go b
-    where
-      go : (b : Bool) → bit (cond b (bitOr w (2 ^ t)) (bitAnd w (flip (2 ^ t)))) t ≡ cond b 1 0
-      go true = or-pow-same w t
-      go false = clear-same w t h
-
-  pub change-other : (j : ℕ) → j < 64 → j ≢ t → bit (change b w t) j ≡ bit w j
-  unfolding change
-  change-other j l n = go b
-    where
-      go : (b : Bool) → bit (cond b (bitOr w (2 ^ t)) (bitAnd w (flip (2 ^ t)))) j ≡ bit w j
-      go true = or-pow-other w t j n
-      go false = clear-other w t j h l n
-
-  pub change-lt : w < 2 ^ 64 → change b w t < 2 ^ 64
-  unfolding change
-  change-lt l = go b
-    where
-      go : (b : Bool) → cond b (bitOr w (2 ^ t)) (bitAnd w (flip (2 ^ t))) < 2 ^ 64
-      go true = or-lt 64 w (2 ^ t) l (pow-lt h)
-      go false = omega (arith, and-le-l w (flip (2 ^ t)))
-
--- ---- all layers
+use Rattle.bitset.specs.Edit.{edit, edits}
 
 module _ (b : Bool) (N : ℕ) (s : List ℕ) (i : ℕ) where
   pub length-edits : (m : ℕ) → length (edits b N s i m) ≡ length s

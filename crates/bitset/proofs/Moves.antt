@@ -7,15 +7,14 @@ use Prim.Native.Nat.{ℕ, zero, suc, _+_, _-_, _*_, _/_, _%_, _^_, _≤_, _<_}
 use native.Mathlib.Decide.{decLt, ℕ-discrete}
 use native.Mathlib.Omega.{arith}
 use borrow.Author.Tests.{eq-eqb, ne-eqb, eqb-true, eqb-false}
-use lib.Bits.{bitOr}
 use lib.Dec.{eqb}
 use lib.ListN.{length}
-use Rattle.util.proofs.Bits.{or-pow-some}
+use Rattle.util.proofs.Bits.{set-some}
 use Rattle.store.specs.Layout.{top, storeLen, cap}
 use Rattle.store.specs.Word.{word, on, anc, Member, Sound}
 use Rattle.store.proofs.Members.{over-on}
 use Rattle.store.proofs.Words.{on-lt, on-word}
-use Rattle.bitset.specs.Edit.{change, edit, edits, holds, addLayers, left, climb, removeLayers}
+use Rattle.bitset.specs.Edit.{edit, edits, holds, addLayers, left, climb, removeLayers}
 use Rattle.bitset.proofs.Edits.{cap-edits, word-edits-same, word-edits-other, on-edits-same, on-edits-other, sound-edits}
 
 -- ---- the layers written, case by case
@@ -93,11 +92,6 @@ module _ (N : ℕ) (s : List ℕ) (i : ℕ) where
 -- ---- soundness is kept
 
 module _ (N : ℕ) (s : List ℕ) (i : ℕ) (long : length s ≡ storeLen N) (hi : i < N) (z : Sound N s) where
-  -- a word with a bit set in it is not 0
-  set-some : (w t : ℕ) → change true w t ≢ 0
-  unfolding change
-  set-some w t = or-pow-some w t
-
   sound-set : (m : ℕ) → 0 < m → m ≤ suc (top N) → ((k : ℕ) → suc k ≡ m → k < top N → word N s k (anc i k / 64) ≢ 0) → Sound N (edits true N s i m)
   unfolding anc
   sound-set m hz hm tip = sound-edits true N s i long hi m hm z (λ k h. way k h (decLt (suc k) m) (decLt k m))

@@ -1,60 +1,47 @@
 -- Where the code of a private step finds the word over an id, and that what it writes is the definition's edit.
-use mathlib.Core.Bool.{Bool, true, false, cond, not}
+use mathlib.Core.Bool.{Bool, true, false, cond}
 use mathlib.Core.List.{List}
 use mathlib.Core.Logic.{_≢_}
 use mathlib.Core.Path.{_≡_, refl, sym, ap, ap₂, _∙_, subst}
 use Prim.Native.Nat.{ℕ, zero, suc, _+_, _-_, _*_, _/_, _%_, _^_, _≤_, _<_}
-use native.Mathlib.Decide.{ℕ-discrete}
 use native.Mathlib.Numerals.{add-one}
 use native.Mathlib.Omega.{arith}
-use borrow.Author.Tests.{eq-eqb, ne-eqb}
-use lib.Bits.{bitAnd}
-use lib.Dec.{eqb}
 use lib.ListN.{length, getD, set}
-use Rattle.util.specs.Word.{bit}
-use Rattle.util.proofs.Bits.{test-on, test-off, bit-lt}
-use Rattle.store.specs.Layout.{top, room, layerLen, layerStart, layerEnd, cap}
+use Rattle.util.specs.Word.{change}
+use Rattle.store.specs.Layout.{top, room, layerLen, layerStart, layerEnd, cap, endOf}
 use Rattle.store.specs.Word.{word, anc, put}
-use Rattle.store.specs.declared.Shape.{Shape}
-use Rattle.store.proofs.Tested.{Part, part, shape-kept}
+use Rattle.store.proofs.Ends.{Part, part}
+use Rattle.store.proofs.Geometry.{store-kept}
 use Rattle.store.proofs.Words.{word-in, word-put-same, place-in, anc-in, anc-shift}
-use Rattle.bitset.specs.Edit.{change, edit, edits, left, climb, Placed, Edited}
+use Rattle.bitset.specs.Edit.{edit, edits, left, climb, Placed, Edited}
 use Rattle.bitset.proofs.Edits.{length-edits, cap-edits, word-edits-same}
 use Rattle.bitset.proofs.Moves.{climb-on, climb-stop, climb-top}
 
--- the code's test of a bit is the definition's
-pub tested : (w b : ℕ) → not (eqb (bitAnd w (2 ^ b)) 0) ≡ eqb (bit w b) 1
-tested w b = go (ℕ-discrete (bitAnd w (2 ^ b)) 0)
-  where
-    go : Dec (bitAnd w (2 ^ b) ≡ 0) → not (eqb (bitAnd w (2 ^ b)) 0) ≡ eqb (bit w b) 1
-    go (yes e) = ap not (eq-eqb (bitAnd w (2 ^ b)) 0 e) ∙ sym (ne-eqb (bit w b) 1 (λ x. omega (arith, test-off w b e)))
-    go (no n) = ap not (ne-eqb (bitAnd w (2 ^ b)) 0 n) ∙ sym (eq-eqb (bit w b) 1 (test-on w b n))
-
 -- four layers, so a layer number is a small number
-pub layer-lt : {s : List ℕ} {l : Shape} {i k : ℕ} → Placed s l i k → k < 4
+pub layer-lt : {s : List ℕ} {N i k : ℕ} → Placed s N i k → k < 4
 unfolding top
 layer-lt p = omega (arith, p .layer)
 
 -- the word over id i in layer k: where it stands in the store and in the layer
-pub record Spot (s : List ℕ) (l : Shape) (i k : ℕ) : Type 0 where
-  pub at : Part s l k
+pub record Spot (s : List ℕ) (N i k : ℕ) : Type 0 where
+  pub at : Part N s k
   pub here : i / 2 ^ (6 * (k + 1)) ≡ anc i k / 64
-  pub in-layer : anc i k / 64 < layerLen (l .n) k
+  pub in-layer : anc i k / 64 < layerLen N k
 
-pub spot : {s : List ℕ} {l : Shape} {i k : ℕ} → Placed s l i k → Spot s l i k
+pub spot : {s : List ℕ} {N i k : ℕ} → Placed s N i k → Spot s N i k
 unfolding anc
-spot {s} {l} {i} {k} p =
+spot {s} {N} {i} {k} p =
     record {
       at = part (p .store) k (p .layer);
       here = ap (λ (x : ℕ). i / 2 ^ (6 * x)) (add-one k) ∙ sym (anc-shift i (suc k));
-      in-layer = place-in (l .n) k (anc i k) (anc-in (l .n) i k (p .below));
+      in-layer = place-in N k (anc i k) (anc-in N i k (p .below));
     }
 
 -- the same at the code's numbers: a is where the layer starts, e where it ends, q the word in it
-module _ {s : List ℕ} {l : Shape} {i k : ℕ} (p : Placed s l i k) (a e q : ℕ)
-    (a-is : a ≡ getD (l .ends) (k + 1) 0) (e-is : e ≡ getD (l .ends) k 0) (q-is : q ≡ i / 2 ^ (6 * (k + 1))) where
+module _ {s : List ℕ} {N i k : ℕ} (p : Placed s N i k) (a e q : ℕ)
+    (a-is : a ≡ endOf N (k + 1)) (e-is : e ≡ endOf N k) (q-is : q ≡ i / 2 ^ (6 * (k + 1))) where
   pub record Ranged : Type 0 where
-    pub start : a ≡ layerStart (l .n) k
+    pub start : a ≡ layerStart N k
     pub index : q ≡ anc i k / 64
     pub part-in : a + q < e
     pub end-in : e ≤ length s
@@ -69,48 +56,48 @@ module _ {s : List ℕ} {l : Shape} {i k : ℕ} (p : Placed s l i k) (a e q : �
         end-in = omega (arith, e-is, z .at .ends, z .at .inside);
       }
 
-  pub word-there : getD s (a + q) 0 ≡ word (l .n) s k (anc i k / 64)
+  pub word-there : getD s (a + q) 0 ≡ word N s k (anc i k / 64)
   word-there =
       let r = ranged in
-      ap₂ (λ (x y : ℕ). getD s (x + y) 0) (r .start) (r .index) ∙ sym (word-in (l .n) s k (anc i k / 64) (spot p .in-layer))
+      ap₂ (λ (x y : ℕ). getD s (x + y) 0) (r .start) (r .index) ∙ sym (word-in N s k (anc i k / 64) (spot p .in-layer))
 
   -- what the code writes
-  pub edited : (on : Bool) (w : ℕ) (t : List ℕ) → w ≡ change on (getD s (a + q) 0) (i / 2 ^ (6 * k) % 64) → t ≡ set s (a + q) w → Edited on s l i k t w
+  pub edited : (on : Bool) (b w : ℕ) (t : List ℕ) → b ≡ i / 2 ^ (6 * k) → w ≡ change on (getD s (a + q) 0) (b % 64) → t ≡ set s (a + q) w → Edited on s N i k t w
   unfolding edit put
-  edited on w t w-is t-is =
+  edited on b w t b-is w-is t-is =
       let r = ranged in
-      let v : w ≡ change on (word (l .n) s k (anc i k / 64)) (anc i k % 64) =
-      w-is ∙ ap₂ (λ (x y : ℕ). change on x (y % 64)) word-there (sym (anc-shift i k)) in
-      let m : t ≡ edit on (l .n) s k (anc i k) = t-is ∙ (λ j. set s (r .start j + r .index j) (v j)) in
+      let v : w ≡ change on (word N s k (anc i k / 64)) (anc i k % 64) =
+      w-is ∙ ap₂ (λ (x y : ℕ). change on x (y % 64)) word-there (b-is ∙ sym (anc-shift i k)) in
+      let m : t ≡ edit on N s k (anc i k) = t-is ∙ (λ j. set s (r .start j + r .index j) (v j)) in
       record {
         memory = m;
-        answer = v ∙ sym (ap (λ (x : List ℕ). word (l .n) x k (anc i k / 64)) m
-            ∙ word-put-same (l .n) s (p .store .long) k (anc i k / 64) (change on (word (l .n) s k (anc i k / 64)) (anc i k % 64)) (p .layer) (spot p .in-layer));
+        answer = v ∙ sym (ap (λ (x : List ℕ). word N x k (anc i k / 64)) m
+            ∙ word-put-same N s (p .store .long) k (anc i k / 64) (change on (word N s k (anc i k / 64)) (anc i k % 64)) (p .layer) (spot p .in-layer));
       }
 
 -- ---- a run of steps: the m lowest layers are edited
 
-module _ (on : Bool) {s : List ℕ} {l : Shape} {i : ℕ} (p : Placed s l i 0) where
+module _ (on : Bool) {s : List ℕ} {N i : ℕ} (p : Placed s N i 0) where
   -- the next step may be made
-  pub placed : (k : ℕ) (t : List ℕ) → k ≤ top (l .n) → t ≡ edits on (l .n) s i k → Placed t l i k
+  pub placed : (k : ℕ) (t : List ℕ) → k ≤ top N → t ≡ edits on N s i k → Placed t N i k
   placed k t h e =
       record {
-        store = shape-kept (p .store) (ap length e ∙ length-edits on (l .n) s i k) (ap cap e ∙ cap-edits on (l .n) s i k);
+        store = store-kept (p .store) (ap length e ∙ length-edits on N s i k) (ap cap e ∙ cap-edits on N s i k);
         below = p .below;
         layer = h;
       }
 
   -- and makes it one more
-  pub one-more : (k : ℕ) (t u : List ℕ) (r : ℕ) → t ≡ edits on (l .n) s i k → Edited on t l i k u r → u ≡ edits on (l .n) s i (suc k)
+  pub one-more : (k : ℕ) (t u : List ℕ) (r : ℕ) → t ≡ edits on N s i k → Edited on t N i k u r → u ≡ edits on N s i (suc k)
   unfolding edits
-  one-more k t u r e d = d .memory ∙ ap (λ (x : List ℕ). edit on (l .n) x k (anc i k)) e
+  one-more k t u r e d = d .memory ∙ ap (λ (x : List ℕ). edit on N x k (anc i k)) e
 
   -- the word that it leaves
-  pub leaves : (k : ℕ) (t u : List ℕ) (r : ℕ) → k ≤ top (l .n) → t ≡ edits on (l .n) s i k → Edited on t l i k u r
-      → r ≡ change on (word (l .n) s k (anc i k / 64)) (anc i k % 64)
+  pub leaves : (k : ℕ) (t u : List ℕ) (r : ℕ) → k ≤ top N → t ≡ edits on N s i k → Edited on t N i k u r
+      → r ≡ change on (word N s k (anc i k / 64)) (anc i k % 64)
   leaves k t u r h e d =
-      d .answer ∙ ap (λ (x : List ℕ). word (l .n) x k (anc i k / 64)) (one-more k t u r e d)
-      ∙ word-edits-same on (l .n) s i (p .store .long) (p .below) (suc k) k (omega arith) (omega arith)
+      d .answer ∙ ap (λ (x : List ℕ). word N x k (anc i k / 64)) (one-more k t u r e d)
+      ∙ word-edits-same on N s i (p .store .long) (p .below) (suc k) k (omega arith) (omega arith)
 
 -- ---- the climb: the layers below k kept no bit
 

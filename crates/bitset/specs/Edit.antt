@@ -3,18 +3,11 @@
 use mathlib.Core.Bool.{Bool, true, false, cond}
 use mathlib.Core.List.{List}
 use mathlib.Core.Path.{_≡_}
-use Prim.Native.Nat.{ℕ, zero, suc, _/_, _%_, _^_, _≤_, _<_}
-use lib.Bits.{bitOr, bitAnd}
+use Prim.Native.Nat.{ℕ, zero, suc, _/_, _%_, _≤_, _<_}
 use lib.Dec.{eqb}
-use Rattle.util.proofs.Bits.{flip}
-use Rattle.store.specs.Layout.{top}
-use Rattle.store.specs.Shape.{Shaped}
+use Rattle.util.specs.Word.{change}
+use Rattle.store.specs.Layout.{top, StoreOf}
 use Rattle.store.specs.Word.{word, on, anc, put}
-use Rattle.store.specs.declared.Shape.{Shape}
-
--- the word w with bit b set, or cleared
-unfoldable pub change : Bool → ℕ → ℕ → ℕ
-change set w b = cond set (bitOr w (2 ^ b)) (bitAnd w (flip (2 ^ b)))
 
 -- the store with the bit at place p of layer k set, or cleared
 unfoldable pub edit : Bool → ℕ → List ℕ → ℕ → ℕ → List ℕ
@@ -48,18 +41,18 @@ climb N s i k (suc d) = let r = climb N s i (suc k) d in cond (eqb (left N s i k
 unfoldable pub removeLayers : ℕ → List ℕ → ℕ → ℕ
 removeLayers N s i = let r = climb N s i 0 (top N) in cond (holds N s i) r 0
 
--- ---- what the private steps ask and leave: l is the shape of the store s, with room for id i
+-- ---- what the private steps ask and leave: s is a store of capacity N, with room for id i
 
-pub record Placed (s : List ℕ) (l : Shape) (i k : ℕ) : Type 0 where
-  pub store : Shaped s l
-  pub below : i < l .n
-  pub layer : k ≤ top (l .n)
+pub record Placed (s : List ℕ) (N i k : ℕ) : Type 0 where
+  pub store : StoreOf N s
+  pub below : i < N
+  pub layer : k ≤ top N
 
-pub record Edited (set : Bool) (s : List ℕ) (l : Shape) (i k : ℕ) (t : List ℕ) (r : ℕ) : Type 0 where
-  pub memory : t ≡ edit set (l .n) s k (anc i k)
-  pub answer : r ≡ word (l .n) t k (anc i k / 64)
+pub record Edited (set : Bool) (s : List ℕ) (N i k : ℕ) (t : List ℕ) (r : ℕ) : Type 0 where
+  pub memory : t ≡ edit set N s k (anc i k)
+  pub answer : r ≡ word N t k (anc i k / 64)
 
 -- the bit over i is set, or cleared, in the m lowest layers, and r says whether i was held
-pub record Moved (set : Bool) (s : List ℕ) (l : Shape) (i m : ℕ) (t : List ℕ) (r : Bool) : Type 0 where
-  pub memory : t ≡ edits set (l .n) s i m
-  pub answer : r ≡ holds (l .n) s i
+pub record Moved (set : Bool) (s : List ℕ) (N i m : ℕ) (t : List ℕ) (r : Bool) : Type 0 where
+  pub memory : t ≡ edits set N s i m
+  pub answer : r ≡ holds N s i

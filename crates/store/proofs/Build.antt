@@ -14,10 +14,10 @@ use lib.Pow.{pow-mono}
 use lib.Seq.{drop-at, drop-drop, getD-take, getD-drop, getD-append-add}
 use Rattle.util.specs.Word.{bit}
 use Rattle.util.proofs.Bits.{bit-of-zero, bit-zero, bit-suc, bit-high, bits-below}
-use Rattle.store.specs.Layout.{header, maxCap, words, room, layerLen, layerStart, storeLen, cap, top}
+use Rattle.store.specs.Layout.{header, maxCap, words, room, layerLen, layerStart, storeLen, cap, top, StoreOf}
 use Rattle.store.specs.Word.{word, on, Member, Sound, Words64}
 use Rattle.store.specs.Build.{flag, flags, chunks, summary, layerOf, stacked, build, layer0, room0, Kept, empty}
-use Rattle.store.proofs.Geometry.{IsStore, end-top, end-step, after-header, within}
+use Rattle.store.proofs.Geometry.{end-top, end-step, after-header, within}
 use Rattle.store.proofs.Words.{word-in, word-out, word-lt, on-lt, bit-place, place-in}
 use Rattle.store.proofs.Members.{words-same, by-layers}
 
@@ -196,7 +196,7 @@ module _ (N : ℕ) (ws : List ℕ) (long : length ws ≡ layerLen N 0) where
 
 -- ---- SOUND STORES are exactly the stores that their layer 0 makes, with no bit at or past N
 
-module _ (s : List ℕ) (is : IsStore s) (small : Words64 s) where
+module _ (s : List ℕ) (is : StoreOf (cap s) s) (small : Words64 s) where
   -- its capacity, its layer 0, and the store that this makes
   abbrev N : ℕ
   N = cap s
@@ -260,8 +260,8 @@ module _ (N : ℕ) (some : 1 ≤ N) where
   pub length-empty : length (empty N) ≡ storeLen N
   length-empty = ap suc (length-replicate (storeLen N - 1) 0) ∙ omega (arith, after-header N 0)
 
-  pub store-empty : N ≤ maxCap → IsStore (empty N)
-  store-empty most = record { some = some; most = most; long = length-empty }
+  pub store-empty : N ≤ maxCap → StoreOf N (empty N)
+  store-empty most = record { some = some; most = most; names = refl; long = length-empty }
 
   pub word-empty : (k q : ℕ) → k ≤ top N → word N (empty N) k q ≡ 0
   word-empty k q h = go (decLt q (layerLen N k))

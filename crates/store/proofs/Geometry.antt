@@ -11,32 +11,25 @@ use lib.Dec.{leb, eqb}
 use lib.ListN.{length, getD, List·getD-eq-default}
 use borrow.Author.Tests.{le-leb, eq-eqb, leb-true, eqb-true}
 use Rattle.util.proofs.Same.{both}
-use Rattle.store.specs.Layout.{header, top, maxCap, isCap, words, room, layerLen, span, layerEnd, layerStart, storeLen, cap, isStore}
+use Rattle.store.specs.Layout.{header, top, maxCap, isCap, words, room, layerLen, span, layerEnd, layerStart, storeLen, cap, isStore, StoreOf}
 
 -- ---- which slices are stores
 
-pub record IsStore (s : List ℕ) : Type 0 where
-  pub some : 1 ≤ cap s
-  pub most : cap s ≤ maxCap
-  pub long : length s ≡ storeLen (cap s)
-
-pub is-store : {s : List ℕ} → IsStore s → isStore s ≡ true
+pub is-store : {N : ℕ} {s : List ℕ} → StoreOf N s → isStore s ≡ true
 unfolding isStore isCap
-is-store {s} h = rw (le-leb 1 (cap s) (h .some), le-leb (cap s) maxCap (h .most), eq-eqb (length s) (storeLen (cap s)) (h .long))
+is-store {N} {s} h =
+    rw (h .names, le-leb 1 N (h .some), le-leb N maxCap (h .most), eq-eqb (length s) (storeLen N) (h .long))
 
-pub store-is : {s : List ℕ} → isStore s ≡ true → IsStore s
+pub store-is : {s : List ℕ} → isStore s ≡ true → StoreOf (cap s) s
 unfolding isStore isCap
 store-is {s} e =
     let p = both (leb 1 (cap s) && leb (cap s) maxCap) (eqb (length s) (storeLen (cap s))) e in
     let q = both (leb 1 (cap s)) (leb (cap s) maxCap) (p .0) in
-    record { some = leb-true 1 (cap s) (q .0); most = leb-true (cap s) maxCap (q .1); long = eqb-true (length s) (storeLen (cap s)) (p .1) }
+    record { some = leb-true 1 (cap s) (q .0); most = leb-true (cap s) maxCap (q .1); names = refl; long = eqb-true (length s) (storeLen (cap s)) (p .1) }
 
-pub no-store : {s : List ℕ} → (IsStore s → ⊥) → isStore s ≡ false
-no-store {s} h = go (isStore s) refl
-  where
-    go : (b : Bool) → isStore s ≡ b → isStore s ≡ false
-    go true e = absurd (h (store-is e))
-    go false e = e
+-- a store stays one while its length and word 0 stay
+pub store-kept : {N : ℕ} {s t : List ℕ} → StoreOf N s → length t ≡ length s → cap t ≡ cap s → StoreOf N t
+store-kept z long names = record { some = z .some; most = z .most; names = names ∙ z .names; long = long ∙ z .long }
 
 pub empty-names-none : (s : List ℕ) → length s ≡ 0 → cap s ≡ 0
 empty-names-none s h = List·getD-eq-default s 0 (omega arith)

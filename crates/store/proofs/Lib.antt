@@ -3,5 +3,5 @@ pub mod Words
 pub mod Members
 pub mod Build
 pub mod Count
-pub mod Tested
+pub mod Ends
 pub mod Parts

@@ -10,9 +10,9 @@ use lib.Seq.{ext-getD}
 use Rattle.util.specs.Word.{bit, places, Rising}
 use Rattle.util.proofs.Bits.{word-ext}
 use Rattle.util.proofs.Places.{some-bit, places-in, in-places, places-rising}
-use Rattle.store.specs.Layout.{header, top, room, layerLen, layerStart, storeLen, cap}
+use Rattle.store.specs.Layout.{header, top, room, layerLen, layerStart, storeLen, cap, StoreOf}
 use Rattle.store.specs.Word.{word, on, anc, Member, members, Sound, Words64}
-use Rattle.store.proofs.Geometry.{IsStore, spot-in}
+use Rattle.store.proofs.Geometry.{spot-in}
 use Rattle.store.proofs.Words.{word-in, word-lt, on-lt, on-word, bit-place}
 
 -- ---- the list of members: exactly the members, each once, rising
@@ -102,7 +102,7 @@ by-layers N s t ls lt head layers = ext-getD 0 s t (ls ∙ sym lt) (λ x l. at x
         ∙ word-in N t (f .layer) (f .index) (f .inside)
         ∙ sym (ap (λ (y : ℕ). getD t y 0) (f .here))
 
-pub same-store : (s t : List ℕ) → IsStore s → IsStore t → cap s ≡ cap t → Words64 s → Words64 t → Sound (cap s) s → Sound (cap t) t
+pub same-store : (s t : List ℕ) → StoreOf (cap s) s → StoreOf (cap t) t → cap s ≡ cap t → Words64 s → Words64 t → Sound (cap s) s → Sound (cap t) t
     → ((j : ℕ) → Member s j ↔ Member t j) → s ≡ t
 same-store s t is it e ws wt zs zt m =
     by-layers (cap s) s t (is .long) (it .long ∙ ap storeLen (sym e))

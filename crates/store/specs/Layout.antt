@@ -1,8 +1,9 @@
 -- The layout of a store, over the layer number. Document 01: "A store is one lent slice of 64-bit words." N is its capacity; layer 0
 -- holds the ids' bits, and each layer above it has a bit for each word of the layer below.
-use mathlib.Core.Bool.{Bool, _&&_}
+use mathlib.Core.Bool.{Bool, cond, _&&_}
 use mathlib.Core.List.{List}
-use Prim.Native.Nat.{ℕ, zero, suc, _+_, _-_, _/_}
+use mathlib.Core.Path.{_≡_}
+use Prim.Native.Nat.{ℕ, zero, suc, _+_, _-_, _/_, _≤_}
 use lib.Dec.{leb, eqb}
 use lib.ListN.{length, getD}
 
@@ -59,3 +60,20 @@ cap s = getD s 0 0
 -- capacity, or the slice is empty where a store is needed"
 unfoldable pub isStore : List ℕ → Bool
 isStore s = isCap (cap s) && eqb (length s) (storeLen (cap s))
+
+-- the same as facts: s is a store of capacity N
+pub record StoreOf (N : ℕ) (s : List ℕ) : Type 0 where
+  pub some : 1 ≤ N
+  pub most : N ≤ maxCap
+  pub names : cap s ≡ N
+  pub long : length s ≡ storeLen N
+
+-- ---- what the shared functions answer
+
+-- where layer k ends in a store of capacity N; 0 where N is no capacity
+unfoldable pub endOf : ℕ → ℕ → ℕ
+endOf N k = cond (isCap N) (layerEnd N k) 0
+
+-- the capacity of a store; 0 where the slice is none
+unfoldable pub capacityOf : List ℕ → ℕ
+capacityOf s = cond (isStore s) (cap s) 0

@@ -1,5 +1,4 @@
 pub mod Layout
 pub mod Word
 pub mod Build
-pub mod Shape
 pub mod Answer

@@ -1,7 +1,7 @@
 // What every call on a store begins with and answers: the store test, reading a word of a layer, and the answers that calls share.
 ghost use mathlib.Core.Path.{_≡_};
-ghost use lib.ListN.{getD};
-ghost use Rattle.store.specs.Shape.{noShape, measureOf, layoutOf};
+ghost use lib.ListN.{getD, set};
+ghost use Rattle.store.specs.Layout.{endOf, capacityOf};
 
 // Yes or no, or the refusal's number.
 pub enum Asked {
@@ -27,53 +27,34 @@ pub enum Read {
     Refused(u32),
 }
 
-// A capacity and where the layers of its stores end; not ok where the number is no capacity, or the slice no store. Layer k stands from
-// ends[k + 1] to ends[k], so all that is known of the layout is here, for every layer alike.
-pub struct Shape {
-    pub ok: bool,
-    pub n: usize,
-    pub ends: [usize; 5],
-}
-
-// No store.
-fn no_shape() -> Shape
-    ensures { λ r. ⌜ r ≡ noShape ⌝ }
+// Where layer k of a store of capacity n ends, and layer k - 1 starts: layer k stands from end(n, k + 1) to end(n, k). 0 where n is no
+// capacity. The layers' lengths are three divisions that do not wait for each other.
+pub fn end(n: usize, k: usize) -> usize
+    ensures { λ r. ⌜ r ≡ endOf n k ⌝ }
 {
-    Shape {
-        ok: false,
-        n: 0,
-        ends: [0; 5],
+    if n == 0 {
+        return 0;
     }
-}
-
-// The shape of the stores of capacity w. The layers' lengths are three divisions that do not wait for each other.
-pub fn measure(w: u64) -> Shape
-    ensures { λ r. ⌜ r ≡ measureOf w ⌝ }
-{
-    if w == 0 {
-        return no_shape();
+    if n > 16777216 {
+        return 0;
     }
-    if w > 16777216 {
-        return no_shape();
-    }
-    let n = w as usize;
     let e2 = 2 + (n + 262143) / 262144;
     let e1 = e2 + (n + 4095) / 4096;
-    let e0 = e1 + (n + 63) / 64;
-    Shape {
-        ok: true,
-        n,
-        ends: [e0, e1, e2, 2, 1],
+    match k {
+        0 => e1 + (n + 63) / 64,
+        1 => e1,
+        2 => e2,
+        3 => 2,
+        _ => 1,
     }
 }
 
-// The store test: the shape that word 0 names, if the slice has its length.
-pub fn layout(store: &[u64]) -> Shape
-    ensures { λ r. ⌜ r ≡ layoutOf (now (store .entry)) ⌝ }
+// The store test: the capacity that word 0 names, if the slice has its length; else 0, which is none.
+pub fn capacity(store: &[u64]) -> usize
+    ensures { λ r. ⌜ r ≡ capacityOf (now (store .entry)) ⌝ }
 {
-    let l = measure(get(store, 0));
-    let e0 = l.ends[0];
-    if store.len() == e0 { l } else { no_shape() }
+    let n = get(store, 0) as usize;
+    if store.len() == end(n, 0) { n } else { 0 }
 }
 
 // Word i of a layer, lent as a part of its store; 0 past its end.
@@ -81,4 +62,14 @@ pub fn get(layer: &[u64], i: usize) -> u64
     ensures { λ r. ⌜ r ≡ getD (now (layer .entry)) i 0 ⌝ }
 {
     if i < layer.len() { layer[i] } else { 0 }
+}
+
+// The word-writing leaf: word i of a layer, lent as a part of its store, becomes w; nothing happens past its end.
+pub fn put(layer: &mut [u64], i: usize, w: u64)
+    ensures { λ r. ⌜ now (layer .exit) ≡ set (now (layer .entry)) i w ⌝ }
+{
+    if i < layer.len() {
+        layer[i] = w;
+        return;
+    }
 }

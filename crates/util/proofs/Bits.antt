@@ -1,18 +1,17 @@
 -- The bits of a word under every operation that the code makes on words.
+use mathlib.Core.Bool.{Bool, true, false, cond, not}
 use mathlib.Core.Path.{_≡_, refl, sym, ap, _∙_, subst}
 use mathlib.Core.Logic.{_≢_}
 use Prim.Native.Nat.{ℕ, zero, suc, _+_, _-_, _*_, _/_, _%_, _^_, _≤_, _<_, min, max}
 use native.Mathlib.Nat.{mod-lt, mul-add-mod-self-right, mod-eq-of-lt, zero-div, one-mul, pow-suc, div-div-eq-div-mul, mul-comm, div-one, zero-lt-suc, div-eq-of-lt, mul-div-cancel, add-zero, div-lt-iff-lt-mul}
 use native.Mathlib.Decide.{decLt, ℕ-discrete}
 use native.Mathlib.Omega.{arith}
+use borrow.Author.Tests.{eq-eqb, ne-eqb}
 use lib.Arith.{bin-ind}
+use lib.Dec.{eqb}
 use lib.Pow.{pow-pos, pow-lt, pow-mono, shl-exact, shl-shr, split}
 use lib.Bits.{bitAnd, bitOr, bitXor, differ, and-step, or-step, xor-step, and-shr, or-shr, xor-shr, or-disjoint, or-lt, and-le-l}
-use Rattle.util.specs.Word.{bit}
-
--- the complement of a word, as the code's `!` makes it
-abbrev pub flip : ℕ → ℕ
-flip w = (2 ^ 64 - 1) - w
+use Rattle.util.specs.Word.{bit, flip, change}
 
 -- `1 << b`
 pub shl-one : (b : ℕ) → b < 64 → 1 * 2 ^ b % 2 ^ 64 ≡ 2 ^ b
@@ -200,6 +199,45 @@ module _ (w b : ℕ) (h : w < 2 ^ 64) (g : b < 64) (on : bit w b ≡ 1) where
 
   pub minus-other : (j : ℕ) → j < 64 → j ≢ b → bit (w - 2 ^ b) j ≡ bit w j
   minus-other j l n = ap (λ (x : ℕ). bit x j) (sym clear-minus) ∙ clear-other w b j g l n
+
+-- ---- one bit set or cleared
+module _ (on : Bool) (w b : ℕ) (h : b < 64) where
+  pub change-same : bit (change on w b) b ≡ cond on 1 0
+  unfolding change
+  change-same = go on
+    where
+      go : (x : Bool) → bit (cond x (bitOr w (2 ^ b)) (bitAnd w (flip (2 ^ b)))) b ≡ cond x 1 0
+      go true = or-pow-same w b
+      go false = clear-same w b h
+
+  pub change-other : (j : ℕ) → j < 64 → j ≢ b → bit (change on w b) j ≡ bit w j
+  unfolding change
+  change-other j l n = go on
+    where
+      go : (x : Bool) → bit (cond x (bitOr w (2 ^ b)) (bitAnd w (flip (2 ^ b)))) j ≡ bit w j
+      go true = or-pow-other w b j n
+      go false = clear-other w b j h l n
+
+  pub change-lt : w < 2 ^ 64 → change on w b < 2 ^ 64
+  unfolding change
+  change-lt l = go on
+    where
+      go : (x : Bool) → cond x (bitOr w (2 ^ b)) (bitAnd w (flip (2 ^ b))) < 2 ^ 64
+      go true = or-lt 64 w (2 ^ b) l (pow-lt h)
+      go false = omega (arith, and-le-l w (flip (2 ^ b)))
+
+-- a word with a bit set in it is not 0
+pub set-some : (w b : ℕ) → change true w b ≢ 0
+unfolding change
+set-some w b = or-pow-some w b
+
+-- the code's test of a bit is the definition's
+pub tested : (w b : ℕ) → not (eqb (bitAnd w (2 ^ b)) 0) ≡ eqb (bit w b) 1
+tested w b = go (ℕ-discrete (bitAnd w (2 ^ b)) 0)
+  where
+    go : Dec (bitAnd w (2 ^ b) ≡ 0) → not (eqb (bitAnd w (2 ^ b)) 0) ≡ eqb (bit w b) 1
+    go (yes e) = ap not (eq-eqb (bitAnd w (2 ^ b)) 0 e) ∙ sym (ne-eqb (bit w b) 1 (λ x. omega (arith, test-off w b e)))
+    go (no n) = ap not (ne-eqb (bitAnd w (2 ^ b)) 0 n) ∙ sym (eq-eqb (bit w b) 1 (test-on w b n))
 
 -- a word whose bits from n on are clear is below 2 ^ n
 clear-below : (m n w : ℕ) → w < 2 ^ (n + m) → ((b : ℕ) → n ≤ b → b < n + m → bit w b ≡ 0) → w < 2 ^ n

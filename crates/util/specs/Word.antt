@@ -1,13 +1,22 @@
 -- Words, bit by bit. A word is a number below 2 ^ 64; its bits are numbered from 0, the lowest, to 63.
-use mathlib.Core.Bool.{Bool, true, false, _&&_}
+use mathlib.Core.Bool.{Bool, true, false, cond, _&&_}
 use mathlib.Core.List.{List, [], _∷_}
-use Prim.Native.Nat.{ℕ, zero, suc, _/_, _%_, _^_, _≤_}
+use Prim.Native.Nat.{ℕ, zero, suc, _-_, _/_, _%_, _^_, _≤_}
+use lib.Bits.{bitAnd, bitOr}
 use lib.Count.{onesIn}
 use lib.Dec.{eqb}
 
 -- bit b of w: 0 or 1
 unfoldable pub bit : ℕ → ℕ → ℕ
 bit w b = w / 2 ^ b % 2
+
+-- the complement of a word
+abbrev pub flip : ℕ → ℕ
+flip w = (2 ^ 64 - 1) - w
+
+-- the word w with bit b set, or cleared
+unfoldable pub change : Bool → ℕ → ℕ → ℕ
+change set w b = cond set (bitOr w (2 ^ b)) (bitAnd w (flip (2 ^ b)))
 
 -- how many bits of a word are set
 unfoldable pub count : ℕ → ℕ

@@ -1,6 +1,8 @@
 // Bits and shifts: the Rust's util.rs on 64-bit words.
 ghost use mathlib.Core.Path.{_≡_};
 ghost use Prim.Native.Nat.{ℕ, _+_, _*_, _/_, _%_, _^_};
+ghost use lib.Dec.{eqb};
+ghost use Rattle.util.specs.Word.{bit, change};
 ghost use Rattle.util.specs.Row.{offsetOf, rowOf, maskOf, offsetsOf};
 ghost use Rattle.util.specs.Outcome.{Settled};
 ghost use Rattle.util.specs.Average.{paper, averageOf};
@@ -59,6 +61,21 @@ pub fn offsets(bit: u32) -> Parents
         layer1: offset(bit, SHIFT2),
         layer2: offset(bit, SHIFT3),
     }
+}
+
+// Whether a bit of a word is set; the bit's number counts modulo 64.
+pub fn is_set(w: u64, b: usize) -> bool
+    ensures { λ r. ⌜ r ≡ eqb (bit w (b % 64)) 1 ⌝ }
+{
+    w & (1u64 << (b % 64)) != 0
+}
+
+// The word with a bit set, or cleared; the bit's number counts modulo 64.
+pub fn with_bit(w: u64, b: usize, on: bool) -> u64
+    ensures { λ r. ⌜ r ≡ change on w (b % 64) ⌝ }
+{
+    let m = 1u64 << (b % 64);
+    if on { w | m } else { w & !m }
 }
 
 // The bit that splits a word's set bits, or none.

@@ -4,36 +4,36 @@ use Prim.Native.Nat.{_≤_}
 use native.Mathlib.Omega.{arith}
 use borrow.Author.Needs.{needs}
 use borrow.Author.Tests.{not-true, not-false}
-use Rattle.store.specs.Shape.{Shaped}
-use Rattle.store.proofs.Tested.{shaped, not-store}
+use Rattle.store.specs.Layout.{StoreOf}
+use Rattle.store.proofs.Ends.{some-store, no-store}
 use Rattle.bitset.proofs.Answers.{add-2, add-3, add-is}
 use Rattle.bitset.proofs.add.Statement.{statement}
 use Rattle.bitset.proofs.add.Tie as tie
 
-layout-requires : tie.Need-layout-requires
-layout-requires c κs = search needs
+capacity-requires : tie.Need-capacity-requires
+capacity-requires c κs = search needs
 
 same-length : tie.Need-same-length
 same-length c = search needs
 
 returns : tie.Need-returns
 returns c =
-    let y = c .before .before in
+    let y = c .before in
     let a = y .before .before .before .args in
-    add-2 (a .store .now) (a .id) (not-store (a .store .now) (y .layout .result) (y .layout .ensures) (not-true _ (c .if1 .taken)))
+    add-2 (a .store .now) (a .id) (no-store (a .store .now) (y .capacity .ensures) (c .if1 .taken))
 
 -- past the first test the slice is a store
-store-here : (c : tie.Else1) → Shaped (c .before .before .before .before .before .args .store .now) (c .before .before .layout .result)
+store-here : (c : tie.Else1) → StoreOf (c .before .capacity .result) (c .before .before .before .before .args .store .now)
 store-here c =
-    let y = c .before .before in
-    shaped (y .before .before .before .args .store .now) (y .layout .result) (y .layout .ensures) (not-false _ (c .if1 .left))
+    let y = c .before in
+    some-store (y .before .before .before .args .store .now) (y .capacity .ensures) (c .if1 .left)
 
 same-length-2 : tie.Need-same-length-2
 same-length-2 c = search needs
 
 returns-2 : tie.Need-returns-2
 returns-2 c =
-    let a = c .before .before .before .before .before .before .args in
+    let a = c .before .before .before .before .before .args in
     add-3 (a .store .now) (a .id) _ (store-here (c .before)) (omega arith)
 
 add-in-requires : tie.Need-add-in-requires
@@ -46,14 +46,14 @@ returns-3 : tie.Need-returns-3
 returns-3 c =
     let m = c .before .before in
     let e = m .before .before in
-    let a = e .before .before .before .before .before .before .args in
+    let a = e .before .before .before .before .before .args in
     add-is (a .store .now) (a .id) _ (store-here (e .before)) (omega arith) (m .add-in .result) (m .add-in .last .0) (m .add-in .ensures)
 
 pub add-spec : {M : Type 1} → statement M
 add-spec =
     tie.close
     (tie.spec
-    layout-requires
+    capacity-requires
     same-length
     returns
     same-length-2

@@ -10,9 +10,8 @@ use borrow.Author.Tests.{ltb-true}
 use lib.Dec.{ltb}
 use lib.ListN.{length, getD, drop}
 use Rattle.util.proofs.Same.{both}
-use Rattle.store.specs.Layout.{cap}
-use Rattle.store.specs.Shape.{Shaped}
-use Rattle.store.proofs.Tested.{shape-kept}
+use Rattle.store.specs.Layout.{cap, StoreOf}
+use Rattle.store.proofs.Geometry.{store-kept}
 use Rattle.bitset.specs.Calls.{allBelow, addAll}
 use Rattle.bitset.specs.Edit.{edits, addLayers, Placed}
 use Rattle.bitset.proofs.Answers.{below-turn, add-turn, add-end}
@@ -21,12 +20,12 @@ use Rattle.bitset.proofs.add_all.Statement.{statement}
 use Rattle.bitset.proofs.add_all.Tie as tie
 
 abbrev Inv-loop : tie.InvT-loop
-Inv-loop store₀ shape ids i₀ store i =
-    (i ≤ length ids) × Shaped store shape × (allBelow (shape .n) (drop i ids) ≡ true)
-    × (addAll (shape .n) store (drop i ids) ≡ addAll (shape .n) store₀ ids) × (length store ≡ length store₀)
+Inv-loop store₀ n ids i₀ store i =
+    (i ≤ length ids) × StoreOf n store × (allBelow n (drop i ids) ≡ true)
+    × (addAll n store (drop i ids) ≡ addAll n store₀ ids) × (length store ≡ length store₀)
 
 abbrev μ-loop : tie.MeasureT-loop
-μ-loop store₀ shape ids i₀ store i = length ids - i
+μ-loop store₀ n ids i₀ store i = length ids - i
 
 loop-holds : tie.Need-loop-holds Inv-loop μ-loop
 loop-holds c = (omega arith, c .before .before .pre .0, c .before .before .pre .1, refl, refl)
@@ -41,16 +40,16 @@ shared-slice-read-add-in c = search needs
 rest : (c : tie.In-loop Inv-loop μ-loop) →
     let a = c .before .before .before .before .args in
     let i = c .before .loop .i in
-    (ltb (getD (a .ids .now) i 0) (a .shape .n) ≡ true) × (allBelow (a .shape .n) (drop (suc i) (a .ids .now)) ≡ true)
+    (ltb (getD (a .ids .now) i 0) (a .n) ≡ true) × (allBelow (a .n) (drop (suc i) (a .ids .now)) ≡ true)
 rest c =
     let l = c .before in
     let a = l .before .before .before .args in
-    both _ _ (sym (below-turn (a .shape .n) (a .ids .now) (l .loop .i) (omega arith)) ∙ l .loop .inv .2)
+    both _ _ (sym (below-turn (a .n) (a .ids .now) (l .loop .i) (omega arith)) ∙ l .loop .inv .2)
 
 here : (c : tie.In-loop Inv-loop μ-loop) →
     let l = c .before in
     let a = l .before .before .before .args in
-    Placed (l .loop .store) (a .shape) (getD (a .ids .now) (l .loop .i) 0) 0
+    Placed (l .loop .store) (a .n) (getD (a .ids .now) (l .loop .i) 0) 0
 here c = record { store = c .before .loop .inv .1; below = ltb-true _ _ (rest c .0); layer = omega arith }
 
 add-in-requires : tie.Need-add-in-requires Inv-loop μ-loop
@@ -68,12 +67,12 @@ loop-again c =
     let t = e .before .before .before in
     let l = t .before in
     let a = l .before .before .before .args in
-    let n = a .shape .n in
+    let n = a .n in
     let x = getD (a .ids .now) (l .loop .i) 0 in
     let m : e .add-in .last .0 ≡ edits true n (l .loop .store) x (addLayers n (l .loop .store) x) = e .add-in .ensures .memory in
     let long = ap length m ∙ length-edits true n (l .loop .store) x (addLayers n (l .loop .store) x) in (
       omega arith,
-      shape-kept (l .loop .inv .1) long (ap cap m ∙ cap-edits true n (l .loop .store) x (addLayers n (l .loop .store) x)),
+      store-kept (l .loop .inv .1) long (ap cap m ∙ cap-edits true n (l .loop .store) x (addLayers n (l .loop .store) x)),
       ap (λ (k : ℕ). allBelow n (drop k (a .ids .now))) (add-one (l .loop .i)) ∙ rest t .1,
       ap₂ (λ (s : List ℕ) (k : ℕ). addAll n s (drop k (a .ids .now))) m (add-one (l .loop .i))
           ∙ sym (add-turn n (l .loop .store) (a .ids .now) (l .loop .i) (omega arith)) ∙ l .loop .inv .3,
@@ -87,7 +86,7 @@ returns : tie.Need-returns Inv-loop μ-loop
 returns c =
     let l = c .before in
     let a = l .before .before .before .args in
-    sym (add-end (a .shape .n) (l .loop .store) (a .ids .now) (l .loop .i) (omega arith)) ∙ l .loop .inv .3
+    sym (add-end (a .n) (l .loop .store) (a .ids .now) (l .loop .i) (omega arith)) ∙ l .loop .inv .3
 
 pub add-all-spec : {M : Type 1} → statement M
 add-all-spec =

@@ -3,29 +3,29 @@ use mathlib.Core.Bool.{true}
 use mathlib.Core.Path.{_≡_, sym, _∙_}
 use borrow.Author.Needs.{needs}
 use borrow.Author.Tests.{not-true, not-false}
-use Rattle.store.specs.Shape.{Shaped}
-use Rattle.store.proofs.Tested.{shaped, not-store}
+use Rattle.store.specs.Layout.{StoreOf}
+use Rattle.store.proofs.Ends.{some-store, no-store}
 use Rattle.bitset.proofs.Answers.{list-2, list-3, list-done}
 use Rattle.bitset.proofs.add_list.Statement.{statement}
 use Rattle.bitset.proofs.add_list.Tie as tie
 
-layout-requires : tie.Need-layout-requires
-layout-requires c κs = search needs
+capacity-requires : tie.Need-capacity-requires
+capacity-requires c κs = search needs
 
 same-length : tie.Need-same-length
 same-length c = search needs
 
 returns : tie.Need-returns
 returns c =
-    let y = c .before .before in
+    let y = c .before in
     let a = y .before .before .before .before .args in
-    list-2 (a .store .now) (a .ids .now) (not-store (a .store .now) (y .layout .result) (y .layout .ensures) (not-true _ (c .if1 .taken)))
+    list-2 (a .store .now) (a .ids .now) (no-store (a .store .now) (y .capacity .ensures) (c .if1 .taken))
 
 -- past the first test the slice is a store
-store-here : (c : tie.Else1) → Shaped (c .before .before .before .before .before .before .args .store .now) (c .before .before .layout .result)
+store-here : (c : tie.Else1) → StoreOf (c .before .capacity .result) (c .before .before .before .before .before .args .store .now)
 store-here c =
-    let y = c .before .before in
-    shaped (y .before .before .before .before .args .store .now) (y .layout .result) (y .layout .ensures) (not-false _ (c .if1 .left))
+    let y = c .before in
+    some-store (y .before .before .before .before .args .store .now) (y .capacity .ensures) (c .if1 .left)
 
 all-below-requires : tie.Need-all-below-requires
 all-below-requires c κs = search needs
@@ -36,7 +36,7 @@ same-length-2 c = search needs
 returns-2 : tie.Need-returns-2
 returns-2 c =
     let b = c .before in
-    let a = b .before .before .before .before .before .before .before .args in
+    let a = b .before .before .before .before .before .before .args in
     list-3 (a .store .now) (a .ids .now) _ (store-here (b .before)) (sym (b .all-below .ensures) ∙ not-true _ (c .if2 .taken))
 
 add-all-requires : tie.Need-add-all-requires
@@ -52,14 +52,14 @@ returns-3 c =
     let m = c .before .before in
     let e = m .before .before in
     let b = e .before in
-    let a = b .before .before .before .before .before .before .before .args in
+    let a = b .before .before .before .before .before .before .args in
     list-done (a .store .now) (a .ids .now) _ (store-here (b .before)) _ (sym (b .all-below .ensures) ∙ not-false _ (e .if2 .left)) (m .add-all .ensures)
 
 pub add-list-spec : {M : Type 1} → statement M
 add-list-spec =
     tie.close
     (tie.spec
-    layout-requires
+    capacity-requires
     same-length
     returns
     all-below-requires

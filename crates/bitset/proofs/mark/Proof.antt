@@ -13,10 +13,10 @@ use Rattle.bitset.proofs.mark.Tie as tie
 use mathlib.Core.Bool.{true}
 
 abbrev Inv-loop : tie.InvT-loop
-Inv-loop store₀ shape id m k₀ store k = (k ≤ m) × (store ≡ edits true (shape .n) store₀ id k) × (length store ≡ length store₀)
+Inv-loop store₀ n id m k₀ store k = (k ≤ m) × (store ≡ edits true n store₀ id k) × (length store ≡ length store₀)
 
 abbrev μ-loop : tie.MeasureT-loop
-μ-loop store₀ shape id m k₀ store k = m - k
+μ-loop store₀ n id m k₀ store k = m - k
 
 loop-holds : tie.Need-loop-holds Inv-loop μ-loop
 unfolding edits
@@ -40,8 +40,8 @@ loop-again c =
     let l = e .before .before .before in
     let s = l .before .before in
     let q = one-more true (s .pre .0) (l .loop .k) _ _ _ (l .loop .inv .1) (e .edit .ensures)
-    ∙ ap (edits true (s .args .shape .n) (s .args .store .now) (s .args .id)) (sym (add-one (l .loop .k))) in
-    (omega arith, q, ap length q ∙ length-edits true (s .args .shape .n) (s .args .store .now) (s .args .id) _)
+    ∙ ap (edits true (s .args .n) (s .args .store .now) (s .args .id)) (sym (add-one (l .loop .k))) in
+    (omega arith, q, ap length q ∙ length-edits true (s .args .n) (s .args .store .now) (s .args .id) _)
 
 same-length : tie.Need-same-length Inv-loop μ-loop
 same-length c = search needs
@@ -50,7 +50,7 @@ returns : tie.Need-returns Inv-loop μ-loop
 returns c =
     let l = c .before in
     let s = l .before .before in
-    l .loop .inv .1 ∙ ap (edits true (s .args .shape .n) (s .args .store .now) (s .args .id)) (omega arith)
+    l .loop .inv .1 ∙ ap (edits true (s .args .n) (s .args .store .now) (s .args .id)) (omega arith)
 
 pub mark-spec : {M : Type 1} → statement M
 mark-spec =

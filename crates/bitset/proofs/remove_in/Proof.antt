@@ -10,14 +10,14 @@ use Rattle.bitset.proofs.remove_in.Tie as tie
 word0-requires : tie.Need-word0-requires
 word0-requires c κs = c .before .before .pre
 
-has-requires : tie.Need-has-requires
-has-requires c κs = search needs
+is-set-requires : tie.Need-is-set-requires
+is-set-requires c κs = search needs
 
 -- the code's test is whether the id is held
-held : (c : tie.After-has) → let s = c .before .before .before .before in c .has .result ≡ holds (s .args .shape .n) (s .args .store .now) (s .args .id)
+held : (c : tie.After-is-set) → let s = c .before .before .before .before in c .is-set .result ≡ holds (s .args .n) (s .args .store .now) (s .args .id)
 held c =
     let s = c .before .before .before .before .args in
-    has-is (s .shape .n) (s .store .now) (s .id) (c .before .word0 .result) (c .has .result) (c .before .word0 .ensures) (c .has .ensures)
+    has-is (s .n) (s .store .now) (s .id) (c .before .word0 .result) (c .is-set .result) (c .before .word0 .ensures) (c .is-set .ensures)
 
 same-length : tie.Need-same-length
 same-length c = search needs
@@ -42,7 +42,7 @@ remove-in-spec =
     tie.close
     (tie.spec
     word0-requires
-    has-requires
+    is-set-requires
     same-length
     returns
     unmark-requires

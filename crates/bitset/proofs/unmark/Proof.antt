@@ -15,11 +15,11 @@ use Rattle.bitset.proofs.unmark.Statement.{statement}
 use Rattle.bitset.proofs.unmark.Tie as tie
 
 abbrev Inv-loop : tie.InvT-loop
-Inv-loop store₀ shape id k₀ store k =
-    (k ≤ 4) × (store ≡ edits false (shape .n) store₀ id k) × (length store ≡ length store₀) × ((j : ℕ) → j < k → left (shape .n) store₀ id j ≡ 0)
+Inv-loop store₀ n id k₀ store k =
+    (k ≤ 4) × (store ≡ edits false n store₀ id k) × (length store ≡ length store₀) × ((j : ℕ) → j < k → left n store₀ id j ≡ 0)
 
 abbrev μ-loop : tie.MeasureT-loop
-μ-loop store₀ shape id k₀ store k = 4 - k
+μ-loop store₀ n id k₀ store k = 4 - k
 
 loop-holds : tie.Need-loop-holds Inv-loop μ-loop
 unfolding edits
@@ -35,13 +35,13 @@ edit-requires c κs =
 more : (c : tie.After-edit Inv-loop μ-loop) →
     let l = c .before .before .before in
     let s = l .before .before in
-    c .edit .last .0 ≡ edits false (s .args .shape .n) (s .args .store .now) (s .args .id) (suc (l .loop .k))
+    c .edit .last .0 ≡ edits false (s .args .n) (s .args .store .now) (s .args .id) (suc (l .loop .k))
 more c = let l = c .before .before .before in one-more false (l .before .before .pre) (l .loop .k) _ _ _ (l .loop .inv .1) (c .edit .ensures)
 
 word-left : (c : tie.After-edit Inv-loop μ-loop) →
     let l = c .before .before .before in
     let s = l .before .before in
-    c .edit .result ≡ left (s .args .shape .n) (s .args .store .now) (s .args .id) (l .loop .k)
+    c .edit .result ≡ left (s .args .n) (s .args .store .now) (s .args .id) (l .loop .k)
 unfolding left top
 word-left c =
     let l = c .before .before .before in
@@ -57,8 +57,8 @@ returns c =
     let l = e .before .before .before in
     let s = l .before .before in
     more e
-    ∙ ap (edits false (s .args .shape .n) (s .args .store .now) (s .args .id))
-    (sym (climb-ends (s .args .shape .n) (s .args .store .now) (s .args .id) (l .loop .k) (omega arith) (l .loop .inv .3) (λ z. c .if1 .taken (word-left e ∙ z))))
+    ∙ ap (edits false (s .args .n) (s .args .store .now) (s .args .id))
+    (sym (climb-ends (s .args .n) (s .args .store .now) (s .args .id) (l .loop .k) (omega arith) (l .loop .inv .3) (λ z. c .if1 .taken (word-left e ∙ z))))
 
 add-k : tie.Need-add-k Inv-loop μ-loop
 add-k c = omega arith
@@ -71,10 +71,10 @@ loop-again c =
     let e = c .before .before .before in
     let l = e .before .before .before in
     let s = l .before .before in
-    let q = more e ∙ ap (edits false (s .args .shape .n) (s .args .store .now) (s .args .id)) (sym (add-one (l .loop .k))) in (
+    let q = more e ∙ ap (edits false (s .args .n) (s .args .store .now) (s .args .id)) (sym (add-one (l .loop .k))) in (
       omega arith,
       q,
-      ap length q ∙ length-edits false (s .args .shape .n) (s .args .store .now) (s .args .id) _,
+      ap length q ∙ length-edits false (s .args .n) (s .args .store .now) (s .args .id) _,
       below-more _ _ (l .loop .inv .3) (sym (word-left e) ∙ c .if1 .left),
     )
 
@@ -88,8 +88,8 @@ returns-2 c =
     let s = l .before .before in
     let n : l .loop .k ≡ 4 = omega arith in
     l .loop .inv .1
-    ∙ ap (edits false (s .args .shape .n) (s .args .store .now) (s .args .id))
-    (n ∙ sym (climb-all (s .args .shape .n) (s .args .store .now) (s .args .id) (λ j h. l .loop .inv .3 j (omega arith))))
+    ∙ ap (edits false (s .args .n) (s .args .store .now) (s .args .id))
+    (n ∙ sym (climb-all (s .args .n) (s .args .store .now) (s .args .id) (λ j h. l .loop .inv .3 j (omega arith))))
 
 pub unmark-spec : {M : Type 1} → statement M
 unmark-spec =

@@ -1,15 +1,15 @@
 -- `bitset::word0` meets its contract. Assumes nothing.
-use mathlib.Core.Path.{_≡_, refl, _∙_}
+use mathlib.Core.Path.{_≡_, refl}
 use native.Mathlib.Omega.{arith}
 use borrow.Author.Needs.{needs}
-use lib.ListN.{getD}
+use Rattle.store.specs.Layout.{endOf}
 use Rattle.store.specs.Word.{anc}
 use Rattle.bitset.proofs.Steps.{Ranged, ranged, word-there}
 use Rattle.bitset.proofs.word0.Statement.{statement}
 use Rattle.bitset.proofs.word0.Tie as tie
 
-element-copy-out-a : tie.Need-element-copy-out-a
-element-copy-out-a c = search needs
+end-requires : tie.Need-end-requires
+end-requires c κs = search needs
 
 offset-requires : tie.Need-offset-requires
 offset-requires c κs = search needs
@@ -17,8 +17,8 @@ offset-requires c κs = search needs
 -- where the word stands
 there : (c : tie.After-offset) →
     let s = c .before .before .before in
-    Ranged (s .pre) (getD (s .args .t2 .ends) 1 0) (getD (s .args .t2 .ends) 0 0) (c .offset .result) refl refl (c .offset .ensures)
-there c = ranged (c .before .before .before .pre) _ _ _ refl refl (c .offset .ensures)
+    Ranged (s .pre) (c .before .end .result) (endOf (s .args .n) 0) (c .offset .result) (c .before .end .ensures) refl (c .offset .ensures)
+there c = ranged (c .before .before .before .pre) _ _ _ (c .before .end .ensures) refl (c .offset .ensures)
 
 add-result : tie.Need-add-result
 add-result c = let r = there c in omega (arith, r .part-in, r .end-in)
@@ -31,15 +31,11 @@ shared-slice-read-result c = let r = there (c .before) in omega (arith, r .part-
 
 returns : tie.Need-returns
 unfolding anc
-returns c = word-there (c .before .before .before .before .pre) _ (getD (c .before .before .before .before .args .t2 .ends) 0 0) _ refl refl (c .before .offset .ensures)
+returns c =
+    let o = c .before in
+    word-there (o .before .before .before .pre) _ (endOf (o .before .before .before .args .n) 0) _ (o .before .end .ensures) refl (o .offset .ensures)
 
 pub word0-spec : {M : Type 1} → statement M
 word0-spec =
     tie.close
-    (tie.spec
-    element-copy-out-a
-    offset-requires
-    add-result
-    mul-result
-    shared-slice-read-result
-    returns)
+    (tie.spec end-requires offset-requires add-result mul-result shared-slice-read-result returns)

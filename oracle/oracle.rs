@@ -1,0 +1,29 @@
+//! The Rust crate's side of the comparison with the proved program replay.
+//!
+//! `oracle script NAME` writes a script to standard output; `oracle answer` reads one from standard input and prints what the
+//! unchanged crate answers, in the form of docs/REPLAY.md. `oracle/compare` builds it and runs both sides.
+mod answers;
+mod scripts;
+
+use std::io::{self, BufWriter, Read, Write};
+
+fn main() -> io::Result<()> {
+    let words: Vec<String> = std::env::args().skip(1).collect();
+    let words: Vec<&str> = words.iter().map(String::as_str).collect();
+    let mut out = BufWriter::new(io::stdout().lock());
+    match words[..] {
+        ["script", "average"] => scripts::average(&mut out)?,
+        ["script", "row"] => scripts::row(&mut out)?,
+        ["script", "bad"] => scripts::bad(&mut out)?,
+        ["answer"] => {
+            let mut script = Vec::new();
+            io::stdin().lock().read_to_end(&mut script)?;
+            answers::all(&script, &mut out)?;
+        }
+        _ => {
+            eprintln!("usage: oracle script average | row | bad; oracle answer <SCRIPT");
+            std::process::exit(2);
+        }
+    }
+    out.flush()
+}
