@@ -5,7 +5,7 @@ use mathlib.Core.Logic.{_≢_}
 use mathlib.Core.Path.{_≡_, refl, sym, ap, ap₂, _∙_, subst}
 use Prim.Native.Nat.{ℕ, zero, suc, _+_, _/_, _%_, _≤_, _<_}
 use native.Mathlib.Omega.{arith}
-use borrow.Author.Tests.{lt-ltb, le-ltb, eqb-true, eqb-false}
+use borrow.Author.Tests.{eqb-true, eqb-false}
 use lib.Dec.{ltb, eqb}
 use lib.ListN.{length, getD, drop}
 use lib.Seq.{drop-cons, drop-length}
@@ -65,35 +65,29 @@ module _ (s : List ℕ) (i : ℕ) where
   remove-2 h = settled (rw h)
 
   module _ (N : ℕ) (z : StoreOf N s) where
-    below : i < N → ltb i (cap s) ≡ true
-    below h = lt-ltb i (cap s) (omega (arith, z .names))
-
-    past : N ≤ i → ltb i (cap s) ≡ false
-    past h = le-ltb i (cap s) (omega (arith, z .names))
-
-    pub contains-past : N ≤ i → Settled askedPaper (containsOf s i) (Is false) tt
+    pub contains-past : ltb i N ≡ false → Settled askedPaper (containsOf s i) (Is false) tt
     unfolding containsOf
-    contains-past h = settled (rw (is-store z, past h))
+    contains-past h = settled (rw (is-store z, z .names, h))
 
-    pub contains-is : i < N → (r : Bool) → r ≡ holds N s i → Settled askedPaper (containsOf s i) (Is r) tt
+    pub contains-is : ltb i N ≡ true → (r : Bool) → r ≡ holds N s i → Settled askedPaper (containsOf s i) (Is r) tt
     unfolding containsOf
-    contains-is h r e = settled (rw (is-store z, below h, z .names, ← e))
+    contains-is h r e = settled (rw (is-store z, z .names, h, ← e))
 
-    pub add-3 : N ≤ i → Settled askedPaper (addOf s i) (AskedRefused 3) s
+    pub add-3 : ltb i N ≡ false → Settled askedPaper (addOf s i) (AskedRefused 3) s
     unfolding addOf
-    add-3 h = settled (rw (is-store z, past h))
+    add-3 h = settled (rw (is-store z, z .names, h))
 
-    pub add-is : i < N → (r : Bool) (t : List ℕ) → Moved true s N i (addLayers N s i) t r → Settled askedPaper (addOf s i) (Is r) t
+    pub add-is : ltb i N ≡ true → (r : Bool) (t : List ℕ) → Moved true s N i (addLayers N s i) t r → Settled askedPaper (addOf s i) (Is r) t
     unfolding addOf
-    add-is h r t m = settled (rw (is-store z, below h, z .names, ← m .answer, ← m .memory))
+    add-is h r t m = settled (rw (is-store z, z .names, h, ← m .answer, ← m .memory))
 
-    pub remove-past : N ≤ i → Settled askedPaper (removeOf s i) (Is false) s
+    pub remove-past : ltb i N ≡ false → Settled askedPaper (removeOf s i) (Is false) s
     unfolding removeOf
-    remove-past h = settled (rw (is-store z, past h))
+    remove-past h = settled (rw (is-store z, z .names, h))
 
-    pub remove-is : i < N → (r : Bool) (t : List ℕ) → Moved false s N i (removeLayers N s i) t r → Settled askedPaper (removeOf s i) (Is r) t
+    pub remove-is : ltb i N ≡ true → (r : Bool) (t : List ℕ) → Moved false s N i (removeLayers N s i) t r → Settled askedPaper (removeOf s i) (Is r) t
     unfolding removeOf
-    remove-is h r t m = settled (rw (is-store z, below h, z .names, ← m .answer, ← m .memory))
+    remove-is h r t m = settled (rw (is-store z, z .names, h, ← m .answer, ← m .memory))
 
 -- ---- a list of ids
 

@@ -2,3 +2,4 @@ pub mod Edits
 pub mod Moves
 pub mod Steps
 pub mod Answers
+pub mod Theorems

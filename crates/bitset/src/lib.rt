@@ -2,6 +2,7 @@
 ghost use mathlib.Core.Bool.{Bool, true, false};
 ghost use mathlib.Core.Path.{_≡_};
 ghost use Prim.Native.Nat.{ℕ, suc, _/_, _≤_};
+ghost use lib.Dec.{ltb};
 ghost use Rattle.util.specs.Outcome.{Settled};
 ghost use Rattle.store.specs.Answer.{askedPaper, didPaper};
 ghost use Rattle.store.specs.Layout.{top, StoreOf};
@@ -10,6 +11,13 @@ ghost use Rattle.bitset.specs.Edit.{edits, addLayers, climb, removeLayer
 ghost use Rattle.bitset.specs.Calls.{containsOf, addOf, removeOf, allBelow, addAll, addListOf};
 use store::Asked;
 use store::Did;
+
+// Whether an id has room: ids stop below the capacity.
+fn has_room(id: u32, n: usize) -> bool
+    ensures { λ r. ⌜ r ≡ ltb id n ⌝ }
+{
+    (id as usize) < n
+}
 
 // The layer-0 word of an id.
 fn word0(store: &[u64], n: usize, id: u32) -> u64
@@ -96,7 +104,7 @@ pub fn contains(store: &[u64], id: u32) -> Asked
     if n == 0 {
         return Asked::Refused(2);
     }
-    if id as usize >= n {
+    if !has_room(id, n) {
         return Asked::Is(false);
     }
     Asked::Is(util::is_set(word0(store, n, id), id as usize))
@@ -110,7 +118,7 @@ pub fn add(store: &mut [u64], id: u32) -> Asked
     if n == 0 {
         return Asked::Refused(2);
     }
-    if id as usize >= n {
+    if !has_room(id, n) {
         return Asked::Refused(3);
     }
     Asked::Is(add_in(store, n, id))
@@ -124,7 +132,7 @@ pub fn remove(store: &mut [u64], id: u32) -> Asked
     if n == 0 {
         return Asked::Refused(2);
     }
-    if id as usize >= n {
+    if !has_room(id, n) {
         return Asked::Is(false);
     }
     Asked::Is(remove_in(store, n, id))
@@ -136,7 +144,7 @@ fn all_below(ids: &[u32], n: usize) -> bool
 {
     let mut i = 0;
     while i < ids.len() {
-        if ids[i] as usize >= n {
+        if !has_room(ids[i], n) {
             return false;
         }
         i += 1;

@@ -4,10 +4,9 @@ use mathlib.Core.Path.{_≡_, refl, sym, ap, _∙_}
 use Prim.Native.Nat.{ℕ, suc, _≤_, _-_}
 use native.Mathlib.Numerals.{add-one}
 use native.Mathlib.Omega.{arith}
-use borrow.Author.Tests.{lt-ltb, le-ltb}
+use borrow.Author.Tests.{not-true, not-false}
 use borrow.Author.Needs.{needs}
-use lib.Dec.{ltb}
-use lib.ListN.{length, getD, drop}
+use lib.ListN.{length, drop}
 use Rattle.bitset.specs.Calls.{allBelow}
 use Rattle.bitset.proofs.Answers.{below-turn, below-end}
 use Rattle.bitset.proofs.all_below.Statement.{statement}
@@ -22,28 +21,30 @@ abbrev μ-loop : tie.MeasureT-loop
 loop-holds : tie.Need-loop-holds Inv-loop μ-loop
 loop-holds c = (omega arith, refl)
 
-mul-if1 : tie.Need-mul-if1 Inv-loop μ-loop
-mul-if1 c = search needs
+mul-has-room : tie.Need-mul-has-room Inv-loop μ-loop
+mul-has-room c = search needs
 
-shared-slice-read-if1 : tie.Need-shared-slice-read-if1 Inv-loop μ-loop
-shared-slice-read-if1 c = search needs
+shared-slice-read-has-room : tie.Need-shared-slice-read-has-room Inv-loop μ-loop
+shared-slice-read-has-room c = search needs
 
-cast-if1 : tie.Need-cast-if1 Inv-loop μ-loop
-cast-if1 c = omega (arith, c .shared-slice-known .given (c .before .before .loop .i))
+has-room-requires : tie.Need-has-room-requires Inv-loop μ-loop
+has-room-requires c κs = search needs
 
--- the list from here on, by the id that stands here
-turn : (c : tie.In-loop Inv-loop μ-loop) →
-    let a = c .before .before .args in
-    let i = c .before .loop .i in
-    allBelow (a .n) (drop i (a .ids .now)) ≡ (ltb (getD (a .ids .now) i 0) (a .n) && allBelow (a .n) (drop (suc i) (a .ids .now)))
-turn c = below-turn (c .before .before .args .n) (c .before .before .args .ids .now) (c .before .loop .i) (omega arith)
+-- the list from here on, by the test of the id that stands here
+turn : (c : tie.After-has-room Inv-loop μ-loop) (b : Bool) → c .has-room .result ≡ b →
+    let l = c .before .before .before in
+    let a = l .before .before .args in
+    allBelow (a .n) (drop (l .loop .i) (a .ids .now)) ≡ (b && allBelow (a .n) (drop (suc (l .loop .i)) (a .ids .now)))
+turn c b e =
+    let l = c .before .before .before in
+    let a = l .before .before .args in
+    below-turn (a .n) (a .ids .now) (l .loop .i) (omega arith)
+    ∙ ap (λ (x : Bool). x && allBelow (a .n) (drop (suc (l .loop .i)) (a .ids .now))) (sym (c .has-room .ensures) ∙ e)
 
 returns : tie.Need-returns Inv-loop μ-loop
 returns c =
-    let l = c .before .before .before in
-    let a = l .before .args in
-    sym (sym (l .loop .inv .1) ∙ turn (c .before .before)
-    ∙ ap (λ (b : Bool). b && allBelow (a .n) (drop (suc (l .loop .i)) (a .ids .now))) (le-ltb _ _ (c .if1 .taken)))
+    let r = c .before in
+    sym (sym (r .before .before .before .loop .inv .1) ∙ turn r false (not-true _ (c .if1 .taken)))
 
 add-i : tie.Need-add-i Inv-loop μ-loop
 add-i c = search needs
@@ -53,18 +54,18 @@ loop-less c = search needs
 
 loop-again : tie.Need-loop-again Inv-loop μ-loop
 loop-again c =
-    let l = c .before .before .before in
-    let a = l .before .args in (
+    let r = c .before in
+    let l = r .before .before .before in
+    let a = l .before .before .args in (
       omega arith,
       ap (λ (x : ℕ). allBelow (a .n) (drop x (a .ids .now))) (add-one (l .loop .i))
-          ∙ sym (turn (c .before .before) ∙ ap (λ (b : Bool). b && allBelow (a .n) (drop (suc (l .loop .i)) (a .ids .now))) (lt-ltb _ _ (c .if1 .left)))
-          ∙ l .loop .inv .1,
+          ∙ sym (turn r true (not-false _ (c .if1 .left))) ∙ l .loop .inv .1,
     )
 
 returns-2 : tie.Need-returns-2 Inv-loop μ-loop
 returns-2 c =
     let l = c .before in
-    let a = l .before .args in
+    let a = l .before .before .args in
     sym (sym (l .loop .inv .1) ∙ below-end (a .n) (a .ids .now) (l .loop .i) (omega arith))
 
 pub all-below-spec : {M : Type 1} → statement M
@@ -74,9 +75,9 @@ all-below-spec =
     Inv-loop
     μ-loop
     loop-holds
-    mul-if1
-    shared-slice-read-if1
-    cast-if1
+    mul-has-room
+    shared-slice-read-has-room
+    has-room-requires
     returns
     add-i
     loop-less

@@ -1,9 +1,11 @@
 -- `bitset::remove` meets its contract. Assumes nothing.
-use mathlib.Core.Path.{_≡_}
+use mathlib.Core.Bool.{true, false}
+use mathlib.Core.Path.{_≡_, sym, _∙_}
 use Prim.Native.Nat.{_≤_}
 use native.Mathlib.Omega.{arith}
 use borrow.Author.Needs.{needs}
-use borrow.Author.Tests.{not-true, not-false}
+use borrow.Author.Tests.{not-true, not-false, ltb-true}
+use lib.Dec.{ltb}
 use Rattle.store.specs.Layout.{StoreOf}
 use Rattle.store.proofs.Ends.{some-store, no-store}
 use Rattle.bitset.proofs.Answers.{remove-2, remove-past, remove-is}
@@ -22,22 +24,27 @@ returns c =
     let a = y .before .before .before .args in
     remove-2 (a .store .now) (a .id) (no-store (a .store .now) (y .capacity .ensures) (c .if1 .taken))
 
--- past the first test the slice is a store
+-- past the first test the slice is a store, past the second the id has room
 store-here : (c : tie.Else1) → StoreOf (c .before .capacity .result) (c .before .before .before .before .args .store .now)
-store-here c =
-    let y = c .before in
-    some-store (y .before .before .before .args .store .now) (y .capacity .ensures) (c .if1 .left)
+store-here c = some-store (c .before .before .before .before .args .store .now) (c .before .capacity .ensures) (c .if1 .left)
+
+room-here : (c : tie.Else2) → let y = c .before .before .before in ltb (y .before .before .before .args .id) (y .capacity .result) ≡ true
+room-here c = sym (c .before .has-room .ensures) ∙ not-false _ (c .if2 .left)
+
+has-room-requires : tie.Need-has-room-requires
+has-room-requires c κs = search needs
 
 same-length-2 : tie.Need-same-length-2
 same-length-2 c = search needs
 
 returns-2 : tie.Need-returns-2
 returns-2 c =
-    let a = c .before .before .before .before .before .args in
-    remove-past (a .store .now) (a .id) _ (store-here (c .before)) (omega arith)
+    let n = c .before .before in
+    let a = n .before .before .before .before .args in
+    remove-past (a .store .now) (a .id) _ (store-here n) (sym (c .before .has-room .ensures) ∙ not-true _ (c .if2 .taken))
 
 remove-in-requires : tie.Need-remove-in-requires
-remove-in-requires c κs = record { store = store-here (c .before .before); below = omega arith; layer = omega arith }
+remove-in-requires c κs = let e = c .before in record { store = store-here (e .before .before); below = ltb-true _ _ (room-here e); layer = omega arith }
 
 same-length-3 : tie.Need-same-length-3
 same-length-3 c = search needs
@@ -46,8 +53,9 @@ returns-3 : tie.Need-returns-3
 returns-3 c =
     let m = c .before .before in
     let e = m .before .before in
-    let a = e .before .before .before .before .before .args in
-    remove-is (a .store .now) (a .id) _ (store-here (e .before)) (omega arith) (m .remove-in .result) (m .remove-in .last .0) (m .remove-in .ensures)
+    let n = e .before .before in
+    let a = n .before .before .before .before .args in
+    remove-is (a .store .now) (a .id) _ (store-here n) (room-here e) (m .remove-in .result) (m .remove-in .last .0) (m .remove-in .ensures)
 
 pub remove-spec : {M : Type 1} → statement M
 remove-spec =
@@ -56,6 +64,7 @@ remove-spec =
     capacity-requires
     same-length
     returns
+    has-room-requires
     same-length-2
     returns-2
     remove-in-requires
