@@ -2,7 +2,7 @@
 
 # Builds the main program from proved crates and runs it.
 run:
-	@rt check replay >target/build.log 2>&1 || { cat target/build.log; exit 1; }
+	@mkdir -p target && rt check replay >target/build.log 2>&1 || { cat target/build.log; exit 1; }
 	@tools/run replay
 
 # The gate: formatting, proofs, must-fail edits, programs, comparison with the Rust.
