@@ -5,7 +5,7 @@ use mathlib.Core.Logic.{_≢_}
 use mathlib.Core.Path.{_≡_, refl, sym, ap, ap₂, _∙_, subst}
 use Prim.Native.Nat.{ℕ, zero, suc, _+_, _/_, _%_, _≤_, _<_}
 use native.Mathlib.Omega.{arith}
-use borrow.Author.Tests.{eqb-true, eqb-false}
+use borrow.Author.Tests.{eqb-true, eqb-false, lt-ltb}
 use lib.Dec.{ltb, eqb}
 use lib.ListN.{length, getD, drop}
 use lib.Seq.{drop-cons, drop-length}
@@ -18,7 +18,8 @@ use Rattle.store.specs.declared.Asked.the-variants.{Is, Refused as AskedRefused
 use Rattle.store.specs.declared.Did.the-variants.{Done, Refused as DidRefused}
 use Rattle.store.proofs.Geometry.{is-store}
 use Rattle.bitset.specs.Calls.{containsOf, addOf, removeOf, allBelow, addAll, addListOf}
-use Rattle.bitset.specs.Edit.{holds, edits, addLayers, climb, removeLayers, Moved}
+use Rattle.bitset.specs.Edit.{holds, edits, addLayers, climb, removeLayers, Placed, Moved}
+use Rattle.bitset.specs.Place.{Outside}
 use Rattle.bitset.proofs.Moves.{add-none, add-all, add-one-layer, remove-none, remove-some}
 
 -- the code's test of the id's bit in its word
@@ -49,7 +50,7 @@ module _ {s : List ℕ} {N i : ℕ} where
       → Moved false s N i (removeLayers N s i) t true
   gone h e = record { memory = e ∙ ap (edits false N s i) (sym (remove-some N s i (eqb-true _ 1 h))); answer = sym h }
 
--- ---- one id
+-- ---- one id: in no store, past the end of one, and in one
 
 module _ (s : List ℕ) (i : ℕ) where
   pub contains-2 : isStore s ≡ false → Settled askedPaper (containsOf s i) (AskedRefused 2) tt
@@ -64,30 +65,33 @@ module _ (s : List ℕ) (i : ℕ) where
   unfolding removeOf
   remove-2 h = settled (rw h)
 
-  module _ (N : ℕ) (z : StoreOf N s) where
-    pub contains-past : ltb i N ≡ false → Settled askedPaper (containsOf s i) (Is false) tt
+  pub contains-past : Outside s i → Settled askedPaper (containsOf s i) (Is false) tt
+  unfolding containsOf
+  contains-past o = settled (rw (is-store (o .store), o .store .names, o .past))
+
+  pub add-3 : Outside s i → Settled askedPaper (addOf s i) (AskedRefused 3) s
+  unfolding addOf
+  add-3 o = settled (rw (is-store (o .store), o .store .names, o .past))
+
+  pub remove-past : Outside s i → Settled askedPaper (removeOf s i) (Is false) s
+  unfolding removeOf
+  remove-past o = settled (rw (is-store (o .store), o .store .names, o .past))
+
+  module _ (N : ℕ) (z : Placed s N i 0) where
+    in-room : ltb i N ≡ true
+    in-room = lt-ltb i N (z .below)
+
+    pub contains-is : (r : Bool) → r ≡ holds N s i → Settled askedPaper (containsOf s i) (Is r) tt
     unfolding containsOf
-    contains-past h = settled (rw (is-store z, z .names, h))
+    contains-is r e = settled (rw (is-store (z .store), z .store .names, in-room, ← e))
 
-    pub contains-is : ltb i N ≡ true → (r : Bool) → r ≡ holds N s i → Settled askedPaper (containsOf s i) (Is r) tt
-    unfolding containsOf
-    contains-is h r e = settled (rw (is-store z, z .names, h, ← e))
-
-    pub add-3 : ltb i N ≡ false → Settled askedPaper (addOf s i) (AskedRefused 3) s
+    pub add-is : (r : Bool) (t : List ℕ) → Moved true s N i (addLayers N s i) t r → Settled askedPaper (addOf s i) (Is r) t
     unfolding addOf
-    add-3 h = settled (rw (is-store z, z .names, h))
+    add-is r t m = settled (rw (is-store (z .store), z .store .names, in-room, ← m .answer, ← m .memory))
 
-    pub add-is : ltb i N ≡ true → (r : Bool) (t : List ℕ) → Moved true s N i (addLayers N s i) t r → Settled askedPaper (addOf s i) (Is r) t
-    unfolding addOf
-    add-is h r t m = settled (rw (is-store z, z .names, h, ← m .answer, ← m .memory))
-
-    pub remove-past : ltb i N ≡ false → Settled askedPaper (removeOf s i) (Is false) s
+    pub remove-is : (r : Bool) (t : List ℕ) → Moved false s N i (removeLayers N s i) t r → Settled askedPaper (removeOf s i) (Is r) t
     unfolding removeOf
-    remove-past h = settled (rw (is-store z, z .names, h))
-
-    pub remove-is : ltb i N ≡ true → (r : Bool) (t : List ℕ) → Moved false s N i (removeLayers N s i) t r → Settled askedPaper (removeOf s i) (Is r) t
-    unfolding removeOf
-    remove-is h r t m = settled (rw (is-store z, z .names, h, ← m .answer, ← m .memory))
+    remove-is r t m = settled (rw (is-store (z .store), z .store .names, in-room, ← m .answer, ← m .memory))
 
 -- ---- a list of ids
 

@@ -1,5 +1,6 @@
 pub mod Edits
 pub mod Moves
 pub mod Steps
+pub mod Places
 pub mod Answers
 pub mod Theorems

@@ -8,6 +8,7 @@ ghost use Rattle.store.specs.Answer.{askedPaper, didPaper};
 ghost use Rattle.store.specs.Layout.{top, StoreOf};
 ghost use Rattle.store.specs.Word.{word};
 ghost use Rattle.bitset.specs.Edit.{edits, addLayers, climb, removeLayers, Placed, Edited, Moved};
+ghost use Rattle.bitset.specs.Place.{Located};
 ghost use Rattle.bitset.specs.Calls.{containsOf, addOf, removeOf, allBelow, addAll, addListOf};
 use store::Asked;
 use store::Did;
@@ -17,6 +18,28 @@ fn has_room(id: u32, n: usize) -> bool
     ensures { λ r. ⌜ r ≡ ltb id n ⌝ }
 {
     (id as usize) < n
+}
+
+// Where an id stands: in a store of so many ids, past its end, or in no store.
+enum Place {
+    In(usize),
+    Past,
+    Nowhere,
+}
+
+// The tests that every call on an id begins with.
+fn locate(store: &[u64], id: u32) -> Place
+    ensures { λ r. ⌜ Located (now (store .entry)) id r ⌝ }
+{
+    let n = store::capacity(store);
+    if n == 0 {
+        return Place::Nowhere;
+    }
+    if has_room(id, n) {
+        Place::In(n)
+    } else {
+        Place::Past
+    }
 }
 
 // The layer-0 word of an id.
@@ -100,42 +123,33 @@ fn remove_in(store: &mut [u64], n: usize, id: u32) -> bool
 pub fn contains(store: &[u64], id: u32) -> Asked
     ensures { λ r. ⌜ Settled askedPaper (containsOf (now (store .entry)) id) r tt ⌝ }
 {
-    let n = store::capacity(store);
-    if n == 0 {
-        return Asked::Refused(2);
+    match locate(store, id) {
+        Place::In(n) => Asked::Is(util::is_set(word0(store, n, id), id as usize)),
+        Place::Past => Asked::Is(false),
+        Place::Nowhere => Asked::Refused(2),
     }
-    if !has_room(id, n) {
-        return Asked::Is(false);
-    }
-    Asked::Is(util::is_set(word0(store, n, id), id as usize))
 }
 
 // Adds an id; answers whether it was held already.
 pub fn add(store: &mut [u64], id: u32) -> Asked
     ensures { λ r. ⌜ Settled askedPaper (addOf (now (store .entry)) id) r (now (store .exit)) ⌝ }
 {
-    let n = store::capacity(store);
-    if n == 0 {
-        return Asked::Refused(2);
+    match locate(store, id) {
+        Place::In(n) => Asked::Is(add_in(store, n, id)),
+        Place::Past => Asked::Refused(3),
+        Place::Nowhere => Asked::Refused(2),
     }
-    if !has_room(id, n) {
-        return Asked::Refused(3);
-    }
-    Asked::Is(add_in(store, n, id))
 }
 
 // Removes an id; answers whether it was held.
 pub fn remove(store: &mut [u64], id: u32) -> Asked
     ensures { λ r. ⌜ Settled askedPaper (removeOf (now (store .entry)) id) r (now (store .exit)) ⌝ }
 {
-    let n = store::capacity(store);
-    if n == 0 {
-        return Asked::Refused(2);
+    match locate(store, id) {
+        Place::In(n) => Asked::Is(remove_in(store, n, id)),
+        Place::Past => Asked::Is(false),
+        Place::Nowhere => Asked::Refused(2),
     }
-    if !has_room(id, n) {
-        return Asked::Is(false);
-    }
-    Asked::Is(remove_in(store, n, id))
 }
 
 // Whether every id of the list has room.
