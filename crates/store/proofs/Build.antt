@@ -47,7 +47,7 @@ bit-flags (w ∷ ws) zero = bit-zero (flag w + 2 * flags ws) ∙ omega (arith, f
 bit-flags (w ∷ ws) (suc b) =
     bit-suc (flag w + 2 * flags ws) b ∙ ap (λ (x : ℕ). bit x b) (let h = flag-lt w in omega arith) ∙ bit-flags ws b
 
-flags-lt : (ws : List ℕ) → flags ws < 2 ^ length ws
+pub flags-lt : (ws : List ℕ) → flags ws < 2 ^ length ws
 unfolding flags
 flags-lt [] = omega arith
 flags-lt (w ∷ ws) = omega (arith, flags-lt ws, flag-lt w, pow-suc 2 (length ws))
@@ -112,7 +112,7 @@ module _ (N : ℕ) (ws : List ℕ) (long : length ws ≡ layerLen N 0) where
       ∙ ap (drop (layerLen N (suc k))) (drop-from d (suc k) (omega arith))
       ∙ drop-at (layerOf (suc k) ws) (stacked (suc k) ws) (layerLen N (suc k)) (length-layer (suc k))
 
-  drop-layer : (k : ℕ) → k ≤ top N → drop (layerStart N k) (build N ws) ≡ stacked (suc k) ws
+  pub drop-layer : (k : ℕ) → k ≤ top N → drop (layerStart N k) (build N ws) ≡ stacked (suc k) ws
   drop-layer k h = drop-from (top N - k) k (omega arith)
 
   pub layer0-build : layer0 N (build N ws) ≡ ws

@@ -1,0 +1,26 @@
+-- The free search, for all inputs. Document 01: "Free search: the lowest id below N that is not a member, or refusal 12 exactly if there
+-- is none."
+use mathlib.Core.Bool.{cond}
+use mathlib.Core.List.{List, [], _∷_}
+use Prim.Native.Nat.{ℕ, _-_}
+use Rattle.util.specs.Outcome.{Outcome}
+use Rattle.util.specs.Word.{places}
+use Rattle.store.specs.Answer.{gives, refuses}
+use Rattle.store.specs.Layout.{cap, isStore}
+use Rattle.store.specs.Word.{on}
+
+-- the id that the search begins with
+abbrev pub searchStart : ℕ
+searchStart = 0
+
+-- the ids from `first` on and below N that are not members, ascending: by layer 0 alone, so on unsound stores too
+unfoldable pub freeFrom : ℕ → List ℕ → ℕ → List ℕ
+freeFrom N s first = places (λ i. 1 - on N s 0 i) first (N - first)
+
+-- the lowest of them
+abbrev pub firstOf : List ℕ → Outcome (Unit {0})
+firstOf [] = refuses 12 tt
+firstOf (i ∷ l) = gives i tt
+
+unfoldable pub firstFreeOf : List ℕ → Outcome (Unit {0})
+firstFreeOf s = cond (isStore s) (firstOf (freeFrom (cap s) s searchStart)) (refuses 2 tt)

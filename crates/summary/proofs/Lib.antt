@@ -1,0 +1,4 @@
+pub mod Layers
+pub mod Last
+pub mod Answers
+pub mod Said
