@@ -7,6 +7,15 @@ ghost use Rattle.store.specs.Layout.{top};
 ghost use Rattle.layers.specs.Calls.{wordOf, layerPart};
 use store::Read;
 
+// The bits of a word.
+pub const BITS_PER_USIZE: usize = 64;
+
+// The ids under a bit of layer 1.
+pub const LAYER1_GRANULARITY: usize = 64;
+
+// The ids under a bit of layer 2.
+pub const LAYER2_GRANULARITY: usize = 4096;
+
 // Layer k, as the caller's own part of the store; empty where the slice is no store.
 fn part(store: &[u64], k: usize) -> &[u64]
     requires { ⌜ k ≤ 3 ⌝ }
