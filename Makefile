@@ -1,9 +1,12 @@
 # The two commands of a fresh machine with the Rattle kit.
 
-# Builds the main program from proved crates and runs it.
+# Lines for the listing program: its sample, or the file that IN names.
+IN ?= crates/listing/stdin
+
+# Builds the listing program from proved crates and runs it.
 run:
-	@mkdir -p target && rt check replay >target/build.log 2>&1 || { cat target/build.log; exit 1; }
-	@tools/run replay
+	@mkdir -p target && rt check listing >target/build.log 2>&1 || { cat target/build.log; exit 1; }
+	@tools/run listing <$(IN)
 
 # The gate: formatting, proofs, must-fail edits, programs, comparison with the Rust.
 test:
