@@ -14,7 +14,7 @@ use Rattle.util.specs.Word.{bit, places, Rising}
 use Rattle.util.proofs.Places.{places-same, places-none, places-in, in-places, places-rising}
 use Rattle.store.specs.Answer.{foundPaper, gives, refuses}
 use Rattle.store.specs.Build.{layer0}
-use Rattle.store.specs.Layout.{words, room, layerLen, layerStart, cap, isStore, StoreOf}
+use Rattle.store.specs.Layout.{maxCap, words, room, layerLen, layerStart, cap, isStore, StoreOf}
 use Rattle.store.specs.Word.{on, Member, Words64}
 use Rattle.store.specs.declared.Found.{Found as Answer}
 use Rattle.store.specs.declared.Found.the-variants.{Refused}
@@ -39,11 +39,11 @@ module _ {N : ℕ} {s : List ℕ} (z : StoreOf N s) where
       take-all (length s - (length s - words N)) (drop (length s - words N) s) (omega (arith, length-drop (length s - words N) s))
       ∙ ap (λ (x : ℕ). drop x s) a
 
-  pub lent-small : Small (take (length s - (length s - words N)) (drop (length s - words N) s)) N searchStart
+  pub lent-small : {first : ℕ} → first ≤ maxCap → Small (take (length s - (length s - words N)) (drop (length s - words N) s)) N first
   unfolding room
-  lent-small =
+  lent-small h =
       let n : length (layer0 N s) ≡ layerLen N 0 = length-drop (layerStart N 0) s ∙ omega (arith, z .long, end-step N 0 (omega arith)) in
-      record { most = z .most; first-in = omega arith; long = omega (arith, ap length lent, n, z .most) }
+      record { most = z .most; first-in = h; long = omega (arith, ap length lent, n, z .most) }
 
   pub answered : Words64 s → {r : Answer}
       → Settled foundPaper (firstOf (freeIn (take (length s - (length s - words N)) (drop (length s - words N) s)) N searchStart)) r tt

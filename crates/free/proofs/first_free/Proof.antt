@@ -40,7 +40,7 @@ part-search-end : tie.Need-part-search-end
 part-search-end c = search needs
 
 search-requires : tie.Need-search-requires
-search-requires c κs = lent-small (store-here (c .before))
+search-requires c κs = lent-small (store-here (c .before)) (omega arith)
 
 returns-2 : tie.Need-returns-2
 returns-2 c =

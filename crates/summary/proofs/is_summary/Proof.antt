@@ -1,7 +1,7 @@
 -- `summary::is_summary` meets its contract: what is left to be compared answers for the whole. Assumes nothing.
-use mathlib.Core.Bool.{Bool, _&&_}
+use mathlib.Core.Bool.{Bool, true, false, _&&_}
 use mathlib.Core.Path.{_≡_, sym, ap, _∙_}
-use Prim.Native.Nat.{suc, _-_, _<_}
+use Prim.Native.Nat.{ℕ, suc, _-_, _<_}
 use native.Mathlib.Numerals.{add-one}
 use native.Mathlib.Omega.{arith}
 use borrow.Author.Tests.{eq-eqb, ne-eqb}
@@ -49,7 +49,10 @@ turned c b e =
     ∙ ap (λ (x : Bool). x && ahead (a .up) (a .part .now) (suc (h .loop .i))) e
 
 returns : tie.Need-returns Inv-loop μ-loop
-returns c = sym (turned (c .before) _ (ne-eqb _ _ (c .if1 .taken)))
+returns c =
+    let h = c .before .before .before .before in
+    let w : ℕ = getD (h .before .before .args .part .now) (h .loop .i) 0 in
+    sym (turned (c .before) false (ne-eqb w (c .before .summary-word .result) (λ e. omega (arith, c .if1 .taken))))
 
 add-i : tie.Need-add-i Inv-loop μ-loop
 add-i c = omega (arith, inside (c .before .before .before))
@@ -58,7 +61,10 @@ loop-less : tie.Need-loop-less Inv-loop μ-loop
 loop-less c = omega (arith, c .before .before .before .loop-test .taken)
 
 loop-again : tie.Need-loop-again Inv-loop μ-loop
-loop-again c = rw add-one (sym (turned (c .before) _ (eq-eqb _ _ (c .if1 .left))))
+loop-again c =
+    let h = c .before .before .before .before in
+    let w : ℕ = getD (h .before .before .args .part .now) (h .loop .i) 0 in
+    rw add-one (sym (turned (c .before) true (eq-eqb w (c .before .summary-word .result) (omega (arith, c .if1 .left)))))
 
 returns-2 : tie.Need-returns-2 Inv-loop μ-loop
 returns-2 c = sym (ahead-end (c .before .before .before .pre) (c .before .loop .i) (c .loop-test .left)) ∙ c .before .loop .inv

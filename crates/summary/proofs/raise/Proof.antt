@@ -25,7 +25,7 @@ loop-holds c = raised-start (c .before .pre)
 
 -- the layer over layer `k` is a layer, and where the two stand
 over : (c : tie.In-loop Inv-loop μ-loop) → c .before .loop .k < top (c .before .before .before .args .n)
-over c = under-top (c .before .before .before .args .n) (c .before .loop .k) (c .loop-test .taken)
+over c = under-top (c .before .before .before .args .n) (c .before .loop .k) (omega (arith, c .loop-test .taken))
 
 there : (c : tie.In-loop Inv-loop μ-loop) →
     let h = c .before .loop in
@@ -81,7 +81,7 @@ same-length c = c .before .loop .inv .long
 returns : tie.Need-returns Inv-loop μ-loop
 returns c =
     let s = c .before .before .before in
-    raised-end (s .pre) (c .before .loop .inv) (past-top (s .args .n) (c .before .loop .k) (c .loop-test .left))
+    raised-end (s .pre) (c .before .loop .inv) (past-top (s .args .n) (c .before .loop .k) (omega (arith, c .loop-test .left)))
 
 pub raise-spec : {M : Type 1} → statement M
 raise-spec =

@@ -27,7 +27,7 @@ loop-holds c = raised-start (c .before .pre)
 
 -- the layer over layer `done` is a layer, and where the two stand
 over : (c : tie.In-loop Inv-loop μ-loop) → c .before .loop .done < top (c .before .before .before .args .n)
-over c = under-top (c .before .before .before .args .n) (c .before .loop .done) (c .loop-test .taken)
+over c = under-top (c .before .before .before .args .n) (c .before .loop .done) (omega (arith, c .loop-test .taken))
 
 there : (c : tie.In-loop Inv-loop μ-loop) →
     let h = c .before .loop in
@@ -103,7 +103,7 @@ returns-2 : tie.Need-returns-2 Inv-loop μ-loop
 returns-2 c =
     let d = c .before in
     let s = d .before .before .before in
-    sound-end (s .pre) (raised-end (s .pre) (d .before .loop .inv) (past-top (s .args .n) (d .before .loop .done) (d .loop-test .left)))
+    sound-end (s .pre) (raised-end (s .pre) (d .before .loop .inv) (past-top (s .args .n) (d .before .loop .done) (omega (arith, d .loop-test .left))))
 
 pub sound-spec : {M : Type 1} → statement M
 sound-spec =
