@@ -1,5 +1,6 @@
 //! What the crate answers to the lines of a script. The reading of a line is written from docs/REPLAY.md and shares nothing with
 //! replay's.
+use crate::stores::Stores;
 use hibitset_util::{average_ones, offsets, Row};
 use std::io::{self, Write};
 
@@ -15,8 +16,9 @@ pub fn all(script: &[u8], out: &mut impl Write) -> io::Result<()> {
     if lines.last() == Some(&&b""[..]) {
         lines.pop();
     }
+    let mut stores = Stores::new();
     for (place, line) in lines.into_iter().enumerate() {
-        match command(line).and_then(|(word, numbers)| answer(word, &numbers)) {
+        match command(line).and_then(|(word, numbers)| answer(&mut stores, word, &numbers)) {
             None => writeln!(out, "? {}", place + 1)?,
             Some(numbers) if numbers.is_empty() => writeln!(out, "none")?,
             Some(numbers) => {
@@ -50,7 +52,7 @@ fn number(field: &str) -> Option<u64> {
 }
 
 /// The numbers of the crate's answer, or nothing where it has no such call.
-fn answer(word: &str, numbers: &[u64]) -> Option<Vec<u64>> {
+fn answer(stores: &mut Stores, word: &str, numbers: &[u64]) -> Option<Vec<u64>> {
     match (word, numbers) {
         ("average", &[w]) => Some(average_ones(w as usize).into_iter().map(|b| b as u64).collect()),
         ("row", &[i, s]) => Some(vec![id(i)?.row(s as usize) as u64]),
@@ -60,7 +62,7 @@ fn answer(word: &str, numbers: &[u64]) -> Option<Vec<u64>> {
             let (a, b, c) = offsets(id(i)?);
             Some(vec![a as u64, b as u64, c as u64])
         }
-        _ => None,
+        _ => stores.answer(word, numbers),
     }
 }
 

@@ -3,7 +3,10 @@
 //! `oracle script NAME` writes a script to standard output; `oracle answer` reads one from standard input and prints what the
 //! unchanged crate answers, in the form of docs/REPLAY.md. `oracle/compare` builds it and runs both sides.
 mod answers;
+mod model;
 mod scripts;
+mod store_scripts;
+mod stores;
 
 use std::io::{self, BufWriter, Read, Write};
 
@@ -15,13 +18,18 @@ fn main() -> io::Result<()> {
         ["script", "average"] => scripts::average(&mut out)?,
         ["script", "row"] => scripts::row(&mut out)?,
         ["script", "bad"] => scripts::bad(&mut out)?,
+        ["script", "small"] => store_scripts::small(&mut out)?,
+        ["script", "history"] => store_scripts::history(&mut out)?,
+        ["script", "top"] => store_scripts::top(&mut out)?,
+        ["script", "unsound"] => store_scripts::unsound(&mut out)?,
+        ["script", "refusal"] => store_scripts::refusal(&mut out)?,
         ["answer"] => {
             let mut script = Vec::new();
             io::stdin().lock().read_to_end(&mut script)?;
             answers::all(&script, &mut out)?;
         }
         _ => {
-            eprintln!("usage: oracle script average | row | bad; oracle answer <SCRIPT");
+            eprintln!("usage: oracle script average | row | bad | small | history | top | unsound | refusal; oracle answer <SCRIPT");
             std::process::exit(2);
         }
     }

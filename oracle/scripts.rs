@@ -3,17 +3,17 @@ use crate::answers::command;
 use std::io::{self, Write};
 
 /// A generator of words (splitmix64).
-struct Random(u64);
+pub struct Random(pub u64);
 
 impl Random {
-    fn word(&mut self) -> u64 {
+    pub fn word(&mut self) -> u64 {
         self.0 = self.0.wrapping_add(0x9e37_79b9_7f4a_7c15);
         let a = (self.0 ^ (self.0 >> 30)).wrapping_mul(0xbf58_476d_1ce4_e5b9);
         let b = (a ^ (a >> 27)).wrapping_mul(0x94d0_49bb_1331_11eb);
         b ^ (b >> 31)
     }
 
-    fn below(&mut self, n: usize) -> usize {
+    pub fn below(&mut self, n: usize) -> usize {
         (self.word() % n as u64) as usize
     }
 
@@ -22,11 +22,11 @@ impl Random {
     }
 
     /// A word with a bit in 2 ^ k set, or all but so many.
-    fn sparse(&mut self, k: usize) -> u64 {
+    pub fn sparse(&mut self, k: usize) -> u64 {
         (1..k).fold(self.word(), |w, _| w & self.word())
     }
 
-    fn dense(&mut self, k: usize) -> u64 {
+    pub fn dense(&mut self, k: usize) -> u64 {
         (1..k).fold(self.word(), |w, _| w | self.word())
     }
 }

@@ -1,28 +1,18 @@
 // The calls of util.
 use crate::say;
 use crate::say::Answer;
+use crate::words::AVERAGE;
+use crate::words::OFFSET;
+use crate::words::OFFSETS;
+use crate::words::ROW;
 use util::Half;
 
-// The command words, a letter a byte.
-const AVERAGE: u64 = 0x61_7665_7261_6765;
-
-const ROW: u64 = 0x72_6f77;
-
-const OFFSET: u64 = 0x6f66_6673_6574;
-
-const MASK: u64 = 0x6d61_736b;
-
-const OFFSETS: u64 = 0x6f_6666_7365_7473;
-
 // An id has 32 bits.
-const LAST_ID: u64 = 4294967295;
+pub const LAST_ID: u64 = 4294967295;
 
 // average W
-fn average(args: &[u64; 64], count: usize) -> Answer {
-    if count != 1 {
-        return say::unknown();
-    }
-    let half = util::average_ones(args[0]);
+fn average(w: u64) -> Answer {
+    let half = util::average_ones(w);
     match half {
         Half::At(b) => say::one(b),
         Half::Nothing => say::none(),
@@ -38,36 +28,21 @@ fn place_of(word: u64, id: u32, shift: usize) -> u64 {
     }
 }
 
-// row I S, offset I S, mask I S
-fn place(word: u64, args: &[u64; 64], count: usize) -> Answer {
-    if count != 2 {
-        return say::unknown();
-    }
-    let i = args[0];
-    if LAST_ID < i {
-        return say::unknown();
-    }
-    say::one(place_of(word, i as u32, args[1] as usize))
-}
-
 // offsets I
-fn offsets(args: &[u64; 64], count: usize) -> Answer {
-    if count != 1 {
-        return say::unknown();
-    }
-    let i = args[0];
-    if LAST_ID < i {
-        return say::unknown();
-    }
-    let p = util::offsets(i as u32);
+fn offsets(id: u32) -> Answer {
+    let p = util::offsets(id);
     say::three(p.layer0 as u64, p.layer1 as u64, p.layer2 as u64)
 }
 
-pub fn call(word: u64, args: &[u64; 64], count: usize) -> Answer {
-    match word {
-        AVERAGE => average(args, count),
-        ROW | OFFSET | MASK => place(word, args, count),
-        OFFSETS => offsets(args, count),
-        _ => say::unknown(),
+pub fn call(word: u64, a: u64, b: u64) -> Answer {
+    if word == AVERAGE {
+        return average(a);
     }
+    if LAST_ID < a {
+        return say::unknown();
+    }
+    if word == OFFSETS {
+        return offsets(a as u32);
+    }
+    say::one(place_of(word, a as u32, b as usize))
 }

@@ -1,115 +1,137 @@
 // Replay: a script of lines drives the public calls, and each line's answer is printed (docs/REPLAY.md). Input is read in pieces of
-// 65,536 bytes, and a line that a piece's end cuts goes on in the next one. What is printed is gathered in a buffer of 65,536 bytes.
+// 65,536 bytes, and lines are taken from them a byte at a time. What is printed is gathered in a buffer of 65,536 bytes.
 mod bits;
+mod desk;
 mod say;
 mod script;
+mod stores;
+mod words;
 
-ghost use Prim.Native.Nat.{_+_, _≤_, _<_, _^_};
+ghost use Prim.Native.Nat.{_≤_};
 ghost use lib.ListN.{length};
-ghost use Rattle.io.specs.Counts.{Counts};
 use libc::STDIN_FILENO;
 use say::Answer;
 
-// What is carried from piece to piece: how much of the output buffer is filled, how long the line is so far, how many lines ended.
-struct State {
-    at: usize,
-    len: usize,
-    number: u64,
+// How many numbers follow the first.
+fn more(count: usize) -> usize {
+    if count == 0 { 0 } else { count - 1 }
 }
 
-// The groups of commands.
-fn call(word: u64, args: &[u64; 64], count: usize) -> Answer {
-    bits::call(word, args, count)
-}
-
-// Line `number` is answered.
-fn reply(line: &[u8], buf: &mut [u8], at: usize, number: u64) -> usize {
-    let mut args = [0u64; 64];
-    let c = script::read(line, &mut args);
-    let a = call(c.word, &args, c.count);
-    say::print(buf, at, number, a)
-}
-
-// How many bytes of a line are read. One that fills the buffer may have been longer: like an empty one it is no command.
-fn whole(line: &[u8], len: usize) -> usize
-    ensures { λ r. ⌜ Counts r (now (line .entry)) ⌝ }
-{
-    if len < line.len() { len } else { 0 }
-}
-
-// The line has `len` bytes now. Where it is ended it is answered, and the next begins.
-fn step(line: &[u8], buf: &mut [u8], st: State, len: usize, ended: bool) -> State
-    requires { ⌜ st .number + 1 < 2 ^ 64 ⌝ }
-    ensures { λ r. ⌜ r .number ≤ st .number + 1 ⌝ }
-{
-    if !ended {
-        return State {
-            at: st.at,
-            len,
-            number: st.number,
-        };
+// The groups of commands that may write to the desk.
+fn changes(
+    desk: &mut [u64],
+    word: u64,
+    count: usize,
+    group: usize,
+    a: u64,
+    b: u64,
+    c: u64,
+) -> Answer {
+    match group {
+        2 => desk::lend(desk, a, b, c),
+        4 => stores::changes(desk, word, a, b, c),
+        _ => stores::list(desk, a, more(count)),
     }
-    let number = st.number + 1;
-    let n = whole(line, len);
-    let at = reply(&line[..n], buf, st.at, number);
-    State { at, len: 0, number }
 }
 
-// A piece of the input.
-fn feed(line: &mut [u8], buf: &mut [u8], st: State, piece: &[u8]) -> State
-    requires { ⌜ st .number + length (now piece) + 1 < 2 ^ 64 ⌝ }
-    ensures { λ r. ⌜ r .number ≤ st .number + length (now (piece .entry)) ⌝ }
-{
-    let mut s = st;
-    let mut i = 0usize;
-    while i < piece.len() {
-        let g = text::gather(line, s.len, piece, i);
-        i = g.next;
-        s = step(line, buf, s, g.len, g.ended);
+// The groups of commands that only read it.
+fn asks(desk: &[u64], word: u64, group: usize, a: u64, b: u64, c: u64) -> Answer {
+    match group {
+        1 => bits::call(word, a, b),
+        3 => stores::asks(desk, word, a, b, c),
+        5 => stores::equal(desk, a, b),
+        _ => say::unknown(),
     }
-    s
 }
 
-// The input's end: a last line that lacks its newline is answered, and what was gathered is written.
-fn finish(line: &[u8], buf: &mut [u8], st: State)
-    requires { ⌜ st .number + 1 < 2 ^ 64 ⌝ }
-{
-    if st.len == 0 {
-        text::flush(buf, st.at);
+fn call(desk: &mut [u64], word: u64, count: usize) -> Answer {
+    let x = desk::first(desk);
+    let group = words::group(word, count, x.a);
+    if group % 2 == 0 {
+        return changes(desk, word, count, group, x.a, x.b, x.c);
+    }
+    asks(desk, word, group, x.a, x.b, x.c)
+}
+
+// A line that has ended is answered.
+fn reply(desk: &mut [u64], buf: &mut [u8], at: usize, line: u64, state: u64, word: u64) -> usize {
+    let a = call(
+        desk,
+        script::command(state, word),
+        script::place(state) as usize,
+    );
+    say::print(buf, at, line, desk, a)
+}
+
+// The end of the input: a last line may lack its newline, and what was gathered is written.
+fn finish(desk: &mut [u64], buf: &mut [u8], at: usize, line: u64, state: u64, word: u64) {
+    if state == 0 {
+        text::flush(buf, at);
         return;
     }
-    let e = step(line, buf, st, st.len, true);
-    text::flush(buf, e.at);
+    let e = reply(desk, buf, at, line, state, word);
+    text::flush(buf, e);
 }
 
-// Reads to the end of the input. `left` is how many more bytes are taken: it falls by what each read brought, so the loop ends, and
-// the number of a line, which is at most the number of bytes read, never wraps.
-fn run(line: &mut [u8], buf: &mut [u8], piece: &mut [u8]) {
-    let mut s = State {
-        at: 0,
-        len: 0,
-        number: 0,
-    };
-    let mut left = 18446744073709551614u64;
-    loop {
-        let got = libc::read(STDIN_FILENO, piece);
-        let n = io::count(got, piece);
-        let m = n as u64;
-        if m == 0 {
-            break;
-        }
-        if left < m {
-            break;
-        }
-        left -= m;
-        s = feed(line, buf, s, &piece[..n]);
+// Reads a piece, of at most `left` bytes.
+fn fill(piece: &mut [u8], left: u64) -> usize
+    ensures { λ r. ⌜ r ≤ length (now (piece .exit)) ⌝ }
+    ensures { λ r. ⌜ r ≤ left ⌝ }
+{
+    let got = libc::read(STDIN_FILENO, piece);
+    let n = io::count(got, piece);
+    if n as u64 <= left {
+        return n;
     }
-    finish(line, buf, s);
+    0
+}
+
+// Reads to the end of the input. `left` is how many more bytes are read: it falls by what each read brought, so the loop ends. There
+// are no more lines than bytes, so their number does not wrap.
+fn run(desk: &mut [u64], buf: &mut [u8], piece: &mut [u8]) {
+    let mut left = 18446744073709551614u64;
+    let mut n = 0usize;
+    let mut i = 0usize;
+    let mut at = 0usize;
+    let mut line = 1u64;
+    let mut size = 0u64;
+    let mut state = 0u64;
+    let mut word = 0u64;
+    let mut value = 0u64;
+    loop {
+        if i == n {
+            n = fill(piece, left);
+            if n == 0 {
+                break;
+            }
+            left -= n as u64;
+            i = 0;
+            continue;
+        }
+        let b = piece[i];
+        i += 1;
+        if b == b'\n' {
+            at = reply(desk, buf, at, line, state, word);
+            line = std::num::wrapping_add_u64(line, 1);
+            size = 0;
+            state = 0;
+            word = 0;
+            value = 0;
+            continue;
+        }
+        let k = script::kind(b);
+        size = script::size(size);
+        state = script::state(size, state, word, value, k);
+        word = script::word(word, k);
+        value = script::value(value, k);
+        store::put(desk, script::place(state) as usize, value);
+    }
+    finish(desk, buf, at, line, state, word);
 }
 
 fn main() {
-    let mut line = io::buffer();
+    let mut desk = [0u64; 550097];
     let mut buf = io::large_buffer();
     let mut piece = io::large_buffer();
-    run(&mut line, &mut buf, &mut piece);
+    run(&mut desk, &mut buf, &mut piece);
 }

@@ -1,42 +1,78 @@
--- `replay::run` is safe and ends: each turn takes a byte at least of those that are left, and lines are no more than the bytes read.
--- Assumes nothing.
+-- `replay::run` is safe and ends: a turn reads at least one byte of those that are left, or takes one that was read. Assumes nothing.
 use mathlib.Core.Path.{_≡_}
-use Prim.Native.Nat.{_+_, _<_, _^_}
+use Prim.Native.Nat.{_+_, _-_, _≤_}
 use lib.ListN.{length}
 use borrow.Author.Needs.{needs}
 use Rattle.replay.proofs.run.Statement.{statement}
 use Rattle.replay.proofs.run.Tie as tie
 
 abbrev Inv-loop : tie.InvT-loop
-Inv-loop line₀ buf₀ piece₀ s₀ left₀ line buf piece s left =
-    (s .number + left + 1 < 2 ^ 64) × (length line ≡ length line₀) × (length buf ≡ length buf₀) × (length piece ≡ length piece₀)
+Inv-loop desk₀ buf₀ piece₀ left₀ n₀ i₀ at₀ line₀ size₀ state₀ word₀ value₀ desk buf piece left n i at line size state word value =
+    (i ≤ n) × (n ≤ length piece₀) × (length desk ≡ length desk₀) × (length buf ≡ length buf₀) × (length piece ≡ length piece₀)
 
 abbrev μ-loop : tie.MeasureT-loop
-μ-loop line₀ buf₀ piece₀ s₀ left₀ line buf piece s left = left
+μ-loop desk₀ buf₀ piece₀ left₀ n₀ i₀ at₀ line₀ size₀ state₀ word₀ value₀ desk buf piece left n i at line size state word value =
+    left + left + (n - i)
 
 loop-holds : tie.Need-loop-holds Inv-loop μ-loop
 loop-holds c = search needs
 
-read-requires : tie.Need-read-requires Inv-loop μ-loop
-read-requires c κs = search needs
+fill-requires : tie.Need-fill-requires Inv-loop μ-loop
+fill-requires c κs = search needs
 
-count-requires : tie.Need-count-requires Inv-loop μ-loop
-count-requires c κs = search needs
-
-slice-reshare-prefix-feed : tie.Need-slice-reshare-prefix-feed Inv-loop μ-loop
-slice-reshare-prefix-feed c = search needs
-
-slice-aggregate-feed : tie.Need-slice-aggregate-feed Inv-loop μ-loop
-slice-aggregate-feed c = search needs
-
-feed-requires : tie.Need-feed-requires Inv-loop μ-loop
-feed-requires c κs = search needs
+sub-left : tie.Need-sub-left Inv-loop μ-loop
+sub-left c = search needs
 
 loop-less : tie.Need-loop-less Inv-loop μ-loop
 loop-less c = search needs
 
 loop-again : tie.Need-loop-again Inv-loop μ-loop
 loop-again c = search needs
+
+slice-read-b : tie.Need-slice-read-b Inv-loop μ-loop
+slice-read-b c = search needs
+
+add-i : tie.Need-add-i Inv-loop μ-loop
+add-i c = search needs
+
+reply-requires : tie.Need-reply-requires Inv-loop μ-loop
+reply-requires c κs = search needs
+
+wrapping-add-u64-requires : tie.Need-wrapping-add-u64-requires Inv-loop μ-loop
+wrapping-add-u64-requires c κs = search needs
+
+loop-less-2 : tie.Need-loop-less-2 Inv-loop μ-loop
+loop-less-2 c = search needs
+
+loop-again-2 : tie.Need-loop-again-2 Inv-loop μ-loop
+loop-again-2 c = search needs
+
+kind-requires : tie.Need-kind-requires Inv-loop μ-loop
+kind-requires c κs = search needs
+
+size-requires : tie.Need-size-requires Inv-loop μ-loop
+size-requires c κs = search needs
+
+state-requires : tie.Need-state-requires Inv-loop μ-loop
+state-requires c κs = search needs
+
+word-requires : tie.Need-word-requires Inv-loop μ-loop
+word-requires c κs = search needs
+
+value-requires : tie.Need-value-requires Inv-loop μ-loop
+value-requires c κs = search needs
+
+place-requires : tie.Need-place-requires Inv-loop μ-loop
+place-requires c κs = search needs
+
+put-requires : tie.Need-put-requires Inv-loop μ-loop
+put-requires c κs = search needs
+
+loop-less-3 : tie.Need-loop-less-3 Inv-loop μ-loop
+loop-less-3 c = search needs
+
+loop-again-3 : tie.Need-loop-again-3 Inv-loop μ-loop
+loop-again-3 c = search needs
 
 finish-requires : tie.Need-finish-requires Inv-loop μ-loop
 finish-requires c κs = search needs
@@ -60,13 +96,25 @@ run-spec =
     Inv-loop
     μ-loop
     loop-holds
-    read-requires
-    count-requires
-    slice-reshare-prefix-feed
-    slice-aggregate-feed
-    feed-requires
+    fill-requires
+    sub-left
     loop-less
     loop-again
+    slice-read-b
+    add-i
+    reply-requires
+    wrapping-add-u64-requires
+    loop-less-2
+    loop-again-2
+    kind-requires
+    size-requires
+    state-requires
+    word-requires
+    value-requires
+    place-requires
+    put-requires
+    loop-less-3
+    loop-again-3
     finish-requires
     same-length
     same-length-2

@@ -1,0 +1,108 @@
+//! An independent reading of document 01, as plain Rust over words: where a store's words stand, which slices are stores, the refusals,
+//! and what the calls do to words that no set of the crate can have. It shares nothing with the port. The steps of adding and removing
+//! are those of the crate, told layer by layer.
+
+/// The largest capacity.
+pub const LIMIT: u64 = 16_777_216;
+
+/// How many words each layer of a store of capacity n has, from layer 0 up.
+pub fn sizes(n: u64) -> [usize; 4] {
+    let words = |bits: u64| bits.div_ceil(64);
+    let (zero, one, two) = (words(n), words(words(n)), words(words(words(n))));
+    [zero as usize, one as usize, two as usize, 1]
+}
+
+/// Where each layer begins, from layer 0 up: behind word 0 stand the layers 3, 2, 1 and 0.
+pub fn starts(n: u64) -> [usize; 4] {
+    let [_, one, two, three] = sizes(n);
+    [1 + three + two + one, 1 + three + two, 1 + three, 1]
+}
+
+/// How many words a store of capacity n has.
+pub fn length(n: u64) -> usize {
+    1 + sizes(n).iter().sum::<usize>()
+}
+
+pub fn is_capacity(n: u64) -> bool {
+    (1..=LIMIT).contains(&n)
+}
+
+/// The capacity of a slice that is a store, else refusal 2.
+pub fn capacity(words: &[u64]) -> Result<u64, u64> {
+    match words.first() {
+        Some(&n) if is_capacity(n) && words.len() == length(n) => Ok(n),
+        _ => Err(2),
+    }
+}
+
+/// The word over an id in layer k, and the id's bit in it.
+fn place(n: u64, id: u64, k: usize) -> (usize, u64) {
+    let upper = id >> (6 * k);
+    (starts(n)[k] + (upper / 64) as usize, 1 << (upper % 64))
+}
+
+pub fn contains(words: &[u64], n: u64, id: u64) -> bool {
+    let (at, bit) = place(n, id, 0);
+    id < n && words[at] & bit != 0
+}
+
+/// Adds an id below n to the words as found; whether it was held. Only where the layer-0 word was 0 are the other layers written.
+pub fn add(words: &mut [u64], n: u64, id: u64) -> bool {
+    if contains(words, n, id) {
+        return true;
+    }
+    let old = words[place(n, id, 0).0];
+    for k in 0..if old == 0 { 4 } else { 1 } {
+        let (at, bit) = place(n, id, k);
+        words[at] |= bit;
+    }
+    false
+}
+
+/// Removes an id from the words as found; whether it was held. A layer is written only where the word below it became 0.
+pub fn remove(words: &mut [u64], n: u64, id: u64) -> bool {
+    if !contains(words, n, id) {
+        return false;
+    }
+    for k in 0..4 {
+        let (at, bit) = place(n, id, k);
+        words[at] &= !bit;
+        if words[at] != 0 {
+            break;
+        }
+    }
+    true
+}
+
+/// The lowest id below n that is not a member, or refusal 12.
+pub fn free(words: &[u64], n: u64) -> Result<u64, u64> {
+    (0..n).find(|&id| !contains(words, n, id)).ok_or(12)
+}
+
+/// No bit where no id or word exists, and every summary bit exactly where the word that it stands for is not zero.
+pub fn is_sound(words: &[u64], n: u64) -> bool {
+    let layer = |k: usize| &words[starts(n)[k]..starts(n)[k] + sizes(n)[k]];
+    let set = |layer: &[u64], bit: usize| layer[bit / 64] >> (bit % 64) & 1 == 1;
+    let ids = layer(0);
+    let room = (n as usize..64 * ids.len()).all(|bit| !set(ids, bit));
+    room && (1..4).all(|k| {
+        let (below, above) = (layer(k - 1), layer(k));
+        (0..64 * above.len()).all(|bit| set(above, bit) == below.get(bit).is_some_and(|&w| w != 0))
+    })
+}
+
+/// Every summary bit set exactly where the word that it stands for is not zero; layer 0 stays as found.
+pub fn rebuild(words: &mut [u64], n: u64) {
+    for k in 1..4 {
+        let (below, above) = (starts(n)[k - 1], starts(n)[k]);
+        words[above..above + sizes(n)[k]].fill(0);
+        for bit in (0..sizes(n)[k - 1]).filter(|&bit| words[below + bit] != 0).collect::<Vec<_>>() {
+            words[above + bit / 64] |= 1 << (bit % 64);
+        }
+    }
+}
+
+/// A digest of words: FNV-1a, a word at a time.
+pub fn digest(words: impl IntoIterator<Item = u64>) -> u64 {
+    words.into_iter().fold(14695981039346656037, |h, w| (h ^ w).wrapping_mul(1099511628211))
+}

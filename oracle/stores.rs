@@ -1,0 +1,348 @@
+//! The memory and the slots of a script, and the crate's answers to the calls on stores.
+//!
+//! A slot that was opened, or whose words are those of a set that the crate itself can build, has a set of the crate: every answer and
+//! every word comes from that set. Where words were poked to what no such set has, they come from the model.
+use crate::model;
+use hibitset::{BitSet, BitSetLike};
+
+const MEMORY: usize = 550_000;
+
+const SLOTS: usize = 16;
+
+/// A slot above this many words is not dumped.
+const DUMPED: usize = 1_000;
+
+/// A set of the crate, of ids below n. After `clear` the crate's layers have no words, and grow again with what is added: the words
+/// past their ends are 0, and their lengths mean nothing.
+struct Set {
+    n: u64,
+    bits: BitSet,
+    cleared: bool,
+}
+
+impl Set {
+    fn new(n: u64) -> Set {
+        Set { n, bits: BitSet::with_capacity(n as u32 - 1), cleared: false }
+    }
+
+    fn layer(&self, k: usize) -> Vec<u64> {
+        let slice = match k {
+            0 => self.bits.layer0_as_slice(),
+            1 => self.bits.layer1_as_slice(),
+            2 => self.bits.layer2_as_slice(),
+            _ => return vec![self.bits.layer3() as u64],
+        };
+        let mut words: Vec<u64> = slice.iter().map(|&w| w as u64).collect();
+        if self.cleared {
+            words.resize(model::sizes(self.n)[k], 0);
+        }
+        words
+    }
+
+    /// The words of the store: the capacity, then the layers from the top down.
+    fn words(&self) -> Vec<u64> {
+        let mut words = vec![self.n];
+        for k in (0..4).rev() {
+            words.extend(self.layer(k));
+        }
+        words
+    }
+}
+
+/// A slot's part of the memory. Where it has a set, the words are the set's and those of the memory are out of date. `looked` says
+/// that the words are no set's.
+#[derive(Default)]
+struct Slot {
+    from: usize,
+    len: usize,
+    set: Option<Set>,
+    looked: bool,
+}
+
+pub struct Stores {
+    memory: Vec<u64>,
+    slots: Vec<Slot>,
+}
+
+/// A value or a refusal, on paper.
+fn paper(answer: Result<u64, u64>) -> Option<Vec<u64>> {
+    Some(match answer {
+        Ok(value) => vec![0, value],
+        Err(refusal) => vec![refusal],
+    })
+}
+
+fn id(n: u64) -> Option<u32> {
+    u32::try_from(n).ok()
+}
+
+impl Stores {
+    pub fn new() -> Stores {
+        Stores { memory: vec![0; MEMORY], slots: (0..SLOTS).map(|_| Slot::default()).collect() }
+    }
+
+    /// The numbers of the answer, or nothing where there is no such command.
+    pub fn answer(&mut self, word: &str, numbers: &[u64]) -> Option<Vec<u64>> {
+        let s = *numbers.first()? as usize;
+        if s >= SLOTS {
+            return None;
+        }
+        match (word, &numbers[1..]) {
+            ("lend", &[from, len]) => self.lend(s, from, len),
+            ("poke", &[i, w]) => self.poke(s, i, w),
+            ("peek", &[i]) => Some(vec![*self.words(s).get(usize::try_from(i).ok()?)?]),
+            ("dump", &[]) => Some(self.words(s)).filter(|words| words.len() <= DUMPED),
+            ("digest", &[]) => Some(vec![model::digest(self.words(s))]),
+            ("open", &[n]) => self.open(s, u64::from(id(n)?)),
+            ("clear", &[]) => paper(self.clear(s)),
+            ("add", &[i]) => paper(self.add(s, id(i)?)),
+            ("remove", &[i]) => paper(self.remove(s, id(i)?)),
+            ("contains", &[i]) => paper(self.contains(s, id(i)?)),
+            ("list", ids) => {
+                let ids: Vec<u32> = ids.iter().map(|&i| id(i)).collect::<Option<_>>()?;
+                paper(self.list(s, &ids))
+            }
+            ("isempty", &[]) => paper(self.is_empty(s)),
+            ("equal", &[t]) if t < SLOTS as u64 => paper(self.equal(s, t as usize)),
+            ("word", &[k, i]) => paper(self.word(s, k, i)),
+            ("sound", &[]) => paper(self.is_sound(s)),
+            ("free", &[]) => paper(self.free(s)),
+            ("rebuild", &[]) => paper(self.rebuild(s)),
+            ("layer", &[k]) if k < 3 => Some(self.layer(s, k as usize)),
+            _ => None,
+        }
+    }
+
+    /// Sets of other slots that share words with this one go back into the memory.
+    fn settle(&mut self, s: usize) {
+        let (from, to) = (self.slots[s].from, self.slots[s].from + self.slots[s].len);
+        for t in (0..SLOTS).filter(|&t| t != s) {
+            let other = &self.slots[t];
+            if other.from < to && from < other.from + other.len {
+                self.put_back(t);
+            }
+        }
+    }
+
+    /// A slot's set goes back into the memory.
+    fn put_back(&mut self, s: usize) {
+        let slot = &mut self.slots[s];
+        slot.looked = false;
+        if let Some(set) = slot.set.take() {
+            self.memory[slot.from..slot.from + slot.len].copy_from_slice(&set.words());
+        }
+    }
+
+    fn words(&mut self, s: usize) -> Vec<u64> {
+        self.settle(s);
+        let slot = &self.slots[s];
+        match &slot.set {
+            Some(set) => set.words(),
+            None => self.memory[slot.from..slot.from + slot.len].to_vec(),
+        }
+    }
+
+    /// The capacity of a slot that is a store. If its words are those of a set that the crate can build, it has such a set afterwards.
+    fn store(&mut self, s: usize) -> Result<u64, u64> {
+        self.settle(s);
+        let slot = &mut self.slots[s];
+        if let Some(set) = &slot.set {
+            return Ok(set.n);
+        }
+        let words = &self.memory[slot.from..slot.from + slot.len];
+        let n = model::capacity(words)?;
+        if !slot.looked {
+            slot.looked = true;
+            let mut set = Set::new(n);
+            for id in (0..n).filter(|&id| model::contains(words, n, id)) {
+                set.bits.add(id as u32);
+            }
+            if set.words() == words {
+                slot.set = Some(set);
+            }
+        }
+        Ok(n)
+    }
+
+    /// The words of a store that has no set.
+    fn found(&mut self, s: usize) -> &mut [u64] {
+        let slot = &self.slots[s];
+        assert!(slot.set.is_none());
+        &mut self.memory[slot.from..slot.from + slot.len]
+    }
+
+    fn lend(&mut self, s: usize, from: u64, len: u64) -> Option<Vec<u64>> {
+        if from.checked_add(len)? > MEMORY as u64 {
+            return None;
+        }
+        self.put_back(s);
+        self.slots[s] = Slot { from: from as usize, len: len as usize, set: None, looked: false };
+        Some(vec![0])
+    }
+
+    fn poke(&mut self, s: usize, i: u64, w: u64) -> Option<Vec<u64>> {
+        self.settle(s);
+        if i >= self.slots[s].len as u64 {
+            return None;
+        }
+        self.put_back(s);
+        self.found(s)[i as usize] = w;
+        Some(vec![0])
+    }
+
+    fn open(&mut self, s: usize, n: u64) -> Option<Vec<u64>> {
+        self.settle(s);
+        if !model::is_capacity(n) {
+            return Some(vec![1]);
+        }
+        if self.slots[s].len != model::length(n) {
+            return Some(vec![2]);
+        }
+        self.slots[s].set = Some(Set::new(n));
+        Some(vec![0, 0])
+    }
+
+    fn clear(&mut self, s: usize) -> Result<u64, u64> {
+        self.store(s)?;
+        match &mut self.slots[s].set {
+            Some(set) => {
+                set.bits.clear();
+                set.cleared = true;
+            }
+            None => {
+                self.found(s)[1..].fill(0);
+                self.slots[s].looked = false;
+            }
+        }
+        Ok(0)
+    }
+
+    fn add(&mut self, s: usize, i: u32) -> Result<u64, u64> {
+        let n = self.store(s)?;
+        if u64::from(i) >= n {
+            return Err(3);
+        }
+        let held = match &mut self.slots[s].set {
+            Some(set) => set.bits.add(i),
+            None => model::add(self.found(s), n, i.into()),
+        };
+        Ok(held.into())
+    }
+
+    fn remove(&mut self, s: usize, i: u32) -> Result<u64, u64> {
+        let n = self.store(s)?;
+        if u64::from(i) >= n {
+            return Ok(0);
+        }
+        let held = match &mut self.slots[s].set {
+            Some(set) => set.bits.remove(i),
+            None => model::remove(self.found(s), n, i.into()),
+        };
+        Ok(held.into())
+    }
+
+    fn contains(&mut self, s: usize, i: u32) -> Result<u64, u64> {
+        let n = self.store(s)?;
+        if u64::from(i) >= n {
+            return Ok(0);
+        }
+        let held = match &self.slots[s].set {
+            Some(set) => set.bits.contains(i),
+            None => model::contains(self.found(s), n, i.into()),
+        };
+        Ok(held.into())
+    }
+
+    fn list(&mut self, s: usize, ids: &[u32]) -> Result<u64, u64> {
+        let n = self.store(s)?;
+        if ids.iter().any(|&i| u64::from(i) >= n) {
+            return Err(3);
+        }
+        match &mut self.slots[s].set {
+            Some(set) => Extend::extend(&mut set.bits, ids.iter().copied()),
+            None => {
+                for &i in ids {
+                    model::add(self.found(s), n, i.into());
+                }
+            }
+        }
+        Ok(0)
+    }
+
+    fn is_empty(&mut self, s: usize) -> Result<u64, u64> {
+        self.store(s)?;
+        let empty = match &self.slots[s].set {
+            Some(set) => set.bits.is_empty(),
+            None => self.found(s)[1] == 0,
+        };
+        Ok(empty.into())
+    }
+
+    fn equal(&mut self, s: usize, t: usize) -> Result<u64, u64> {
+        let n = self.store(s)?;
+        if self.store(t)? != n {
+            return Err(5);
+        }
+        // Looking at the one may have put the other's set back.
+        let equal = match (&self.slots[s].set, &self.slots[t].set) {
+            (Some(a), Some(b)) if !a.cleared && !b.cleared => a.bits == b.bits,
+            _ => {
+                let words = self.words(s);
+                words == self.words(t)
+            }
+        };
+        Ok(equal.into())
+    }
+
+    /// The crate has no such call: the words of its set are judged.
+    fn is_sound(&mut self, s: usize) -> Result<u64, u64> {
+        let n = self.store(s)?;
+        Ok(model::is_sound(&self.words(s), n).into())
+    }
+
+    fn free(&mut self, s: usize) -> Result<u64, u64> {
+        let n = self.store(s)?;
+        match &self.slots[s].set {
+            Some(set) => (0..n).find(|&id| !set.bits.contains(id as u32)).ok_or(12),
+            None => model::free(self.found(s), n),
+        }
+    }
+
+    /// The crate has no such call. Nothing changes in the words of a set of the crate's, and those of no set are rebuilt by the model.
+    fn rebuild(&mut self, s: usize) -> Result<u64, u64> {
+        let n = self.store(s)?;
+        if self.slots[s].set.is_none() {
+            model::rebuild(self.found(s), n);
+            self.slots[s].looked = false;
+        }
+        Ok(0)
+    }
+
+    fn word(&mut self, s: usize, k: u64, i: u64) -> Result<u64, u64> {
+        let n = self.store(s)?;
+        if k > 3 {
+            return Err(4);
+        }
+        let (k, i) = (k as usize, i as usize);
+        Ok(match &self.slots[s].set {
+            Some(set) => set.bits.get_from_layer(k, i) as u64,
+            None if k == 3 => self.found(s)[1],
+            None if i < model::sizes(n)[k] => self.found(s)[model::starts(n)[k] + i],
+            None => 0,
+        })
+    }
+
+    fn layer(&mut self, s: usize, k: usize) -> Vec<u64> {
+        let words = match self.store(s) {
+            Err(_) => Vec::new(),
+            Ok(n) => match &self.slots[s].set {
+                Some(set) => set.layer(k),
+                None => {
+                    let start = model::starts(n)[k];
+                    self.found(s)[start..start + model::sizes(n)[k]].to_vec()
+                }
+            },
+        };
+        vec![words.len() as u64, model::digest(words)]
+    }
+}
