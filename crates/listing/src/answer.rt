@@ -83,7 +83,13 @@ fn members(store: &[u64], buf: &mut [u8], at: usize) -> usize {
 }
 
 // Command c stands in line `number`; where there is none, `?` and that number are printed.
-pub fn reply(store: &mut [u64], buf: &mut [u8], at: usize, c: Command, number: u64) -> usize {
+pub(crate) fn reply(
+    store: &mut [u64],
+    buf: &mut [u8],
+    at: usize,
+    c: Command,
+    number: u64,
+) -> usize {
     match c {
         Command::Add(i) => say(buf, at, b'a', i, bitset::add(store, i)),
         Command::Remove(i) => say(buf, at, b'r', i, bitset::remove(store, i)),

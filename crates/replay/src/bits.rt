@@ -34,7 +34,7 @@ fn offsets(id: u32) -> Answer {
     say::three(p.layer0 as u64, p.layer1 as u64, p.layer2 as u64)
 }
 
-pub fn call(word: u64, a: u64, b: u64) -> Answer {
+pub(crate) fn call(word: u64, a: u64, b: u64) -> Answer {
     if word == AVERAGE {
         return average(a);
     }

@@ -19,7 +19,7 @@ pub struct Args {
     pub c: u64,
 }
 
-pub fn first(desk: &[u64]) -> Args {
+pub(crate) fn first(desk: &[u64]) -> Args {
     let a = store::get(desk, 1);
     let b = store::get(desk, 2);
     let c = store::get(desk, 3);
@@ -48,7 +48,7 @@ fn cut(desk: &[u64], from: usize, len: usize) -> Span
 }
 
 // Where slot s is.
-pub fn slot(desk: &[u64], s: u64) -> Span
+pub(crate) fn slot(desk: &[u64], s: u64) -> Span
     ensures { λ r. ⌜ (r .from ≤ r .to) × (r .to ≤ length (now (desk .entry))) ⌝ }
 {
     if s < 16 {
@@ -74,7 +74,7 @@ fn write(desk: &mut [u64], s: u64, from: u64, len: u64) -> Answer {
 }
 
 // lend S FROM LEN: slot S is the part of the memory from FROM on that has LEN words.
-pub fn lend(desk: &mut [u64], s: u64, from: u64, len: u64) -> Answer {
+pub(crate) fn lend(desk: &mut [u64], s: u64, from: u64, len: u64) -> Answer {
     if WORDS < from {
         return say::unknown();
     }
@@ -85,7 +85,7 @@ pub fn lend(desk: &mut [u64], s: u64, from: u64, len: u64) -> Answer {
 }
 
 // dump S: the words of a slot that has at most 1,000.
-pub fn dump(from: usize, to: usize) -> Answer {
+pub(crate) fn dump(from: usize, to: usize) -> Answer {
     if to <= from {
         return say::none();
     }
@@ -106,7 +106,7 @@ fn times(h: u64) -> u64 {
 }
 
 // A digest of words (FNV-1a, a word at a time).
-pub fn digest(part: &[u64]) -> u64 {
+pub(crate) fn digest(part: &[u64]) -> u64 {
     let mut h = 14695981039346656037u64;
     let mut i = 0;
     while i < part.len() {

@@ -24,7 +24,7 @@ fn of(count: usize, a: u64, b: u64, c: u64) -> Answer {
     }
 }
 
-pub fn unknown() -> Answer {
+pub(crate) fn unknown() -> Answer {
     Answer {
         known: false,
         count: 0,
@@ -36,24 +36,24 @@ pub fn unknown() -> Answer {
     }
 }
 
-pub fn none() -> Answer {
+pub(crate) fn none() -> Answer {
     of(0, 0, 0, 0)
 }
 
-pub fn one(a: u64) -> Answer {
+pub(crate) fn one(a: u64) -> Answer {
     of(1, a, 0, 0)
 }
 
-pub fn two(a: u64, b: u64) -> Answer {
+pub(crate) fn two(a: u64, b: u64) -> Answer {
     of(2, a, b, 0)
 }
 
-pub fn three(a: u64, b: u64, c: u64) -> Answer {
+pub(crate) fn three(a: u64, b: u64, c: u64) -> Answer {
     of(3, a, b, c)
 }
 
 // The words of the desk from `from` to `to`.
-pub fn part(from: usize, to: usize) -> Answer {
+pub(crate) fn part(from: usize, to: usize) -> Answer {
     Answer {
         known: true,
         count: 0,
@@ -116,7 +116,7 @@ fn words(buf: &mut [u8], at: usize, desk: &[u64], from: usize, to: usize) -> usi
 }
 
 // What is printed for a line by its number.
-pub fn print(buf: &mut [u8], at: usize, line: u64, desk: &[u64], a: Answer) -> usize {
+pub(crate) fn print(buf: &mut [u8], at: usize, line: u64, desk: &[u64], a: Answer) -> usize {
     if !a.known {
         return bad(buf, at, line);
     }

@@ -7,7 +7,7 @@ fn wide(x: u8) -> u64 {
 }
 
 // What a byte is: 0 to 9 a digit, 10 a blank, 11 any other but a letter, and a letter is itself.
-pub fn kind(b: u8) -> u64 {
+pub(crate) fn kind(b: u8) -> u64 {
     match b {
         b'0'..=b'9' => wide(b - b'0'),
         b'a'..=b'z' => wide(b),
@@ -64,7 +64,7 @@ fn digit(state: u64, value: u64, d: u64) -> u64 {
 const TOO_LONG: u64 = 4096;
 
 // How long the line is with one more byte; longer than too long is not counted.
-pub fn size(size: u64) -> u64 {
+pub(crate) fn size(size: u64) -> u64 {
     if size < TOO_LONG {
         return size + 1;
     }
@@ -72,7 +72,7 @@ pub fn size(size: u64) -> u64 {
 }
 
 // The state behind a byte of kind k, which is byte `size` of the line, counted from 1.
-pub fn state(size: u64, state: u64, word: u64, value: u64, k: u64) -> u64 {
+pub(crate) fn state(size: u64, state: u64, word: u64, value: u64, k: u64) -> u64 {
     if size == TOO_LONG {
         return 3;
     }
@@ -86,12 +86,12 @@ pub fn state(size: u64, state: u64, word: u64, value: u64, k: u64) -> u64 {
 }
 
 // The word behind a byte of kind k.
-pub fn word(word: u64, k: u64) -> u64 {
+pub(crate) fn word(word: u64, k: u64) -> u64 {
     if 11 < k { word << 8 | k } else { word }
 }
 
 // The value behind a byte of kind k.
-pub fn value(value: u64, k: u64) -> u64 {
+pub(crate) fn value(value: u64, k: u64) -> u64 {
     if k > 9 {
         return 0;
     }
@@ -102,12 +102,12 @@ pub fn value(value: u64, k: u64) -> u64 {
 }
 
 // The place on the desk of the number that the line is in; 0 where it is in none.
-pub fn place(state: u64) -> u64 {
+pub(crate) fn place(state: u64) -> u64 {
     if state < 4 { 0 } else { state / 2 - 1 }
 }
 
 // The command word of a line that ends here; 0 where it is no command.
-pub fn command(state: u64, word: u64) -> u64 {
+pub(crate) fn command(state: u64, word: u64) -> u64 {
     if state == 3 {
         return 0;
     }

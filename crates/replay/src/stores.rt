@@ -106,7 +106,7 @@ fn ask(store: &[u64], word: u64, i: u64, k: u64) -> Answer {
     }
 }
 
-pub fn asks(desk: &[u64], word: u64, s: u64, i: u64, k: u64) -> Answer {
+pub(crate) fn asks(desk: &[u64], word: u64, s: u64, i: u64, k: u64) -> Answer {
     let p = desk::slot(desk, s);
     let a = p.from;
     let e = p.to;
@@ -169,7 +169,7 @@ fn change(store: &mut [u64], word: u64, i: u64, w: u64) -> Answer {
     }
 }
 
-pub fn changes(desk: &mut [u64], word: u64, s: u64, i: u64, w: u64) -> Answer {
+pub(crate) fn changes(desk: &mut [u64], word: u64, s: u64, i: u64, w: u64) -> Answer {
     let p = desk::slot(desk, s);
     let a = p.from;
     let e = p.to;
@@ -177,7 +177,7 @@ pub fn changes(desk: &mut [u64], word: u64, s: u64, i: u64, w: u64) -> Answer {
 }
 
 // equal S T
-pub fn equal(desk: &[u64], s: u64, t: u64) -> Answer {
+pub(crate) fn equal(desk: &[u64], s: u64, t: u64) -> Answer {
     if 15 < t {
         return say::unknown();
     }
@@ -219,7 +219,7 @@ fn add_list(desk: &mut [u64], s: u64, ids: &[u32], n: usize) -> Answer {
 }
 
 // list S I1 I2 ..
-pub fn list(desk: &mut [u64], s: u64, n: usize) -> Answer {
+pub(crate) fn list(desk: &mut [u64], s: u64, n: usize) -> Answer {
     let mut ids = [0u32; 63];
     if take_ids(desk, &mut ids, n) {
         return add_list(desk, s, &ids, n);

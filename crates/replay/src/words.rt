@@ -71,7 +71,7 @@ fn group_of(word: u64) -> usize {
 
 // The group of a command with `count` numbers, of which `s` is the first; 7 where there is no such command, or not with these. All but
 // the calls of util begin with the number of a slot.
-pub fn group(word: u64, count: usize, s: u64) -> usize {
+pub(crate) fn group(word: u64, count: usize, s: u64) -> usize {
     let n = takes(word);
     let g = group_of(word);
     if n == 64 {
