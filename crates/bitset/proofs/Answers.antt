@@ -14,12 +14,13 @@ use Rattle.util.specs.Word.{bit}
 use Rattle.store.specs.Answer.{askedPaper, didPaper, says, does, refuses}
 use Rattle.store.specs.Layout.{top, cap, isStore, StoreOf}
 use Rattle.store.specs.Word.{word, on, anc}
+use Rattle.store.specs.declared.Asked.{Asked}
 use Rattle.store.specs.declared.Asked.the-variants.{Is, Refused as AskedRefused}
 use Rattle.store.specs.declared.Did.the-variants.{Done, Refused as DidRefused}
 use Rattle.store.proofs.Geometry.{is-store}
-use Rattle.bitset.specs.Calls.{containsOf, addOf, removeOf, allBelow, addAll, addListOf}
-use Rattle.bitset.specs.Edit.{holds, edits, addLayers, climb, removeLayers, Placed, Moved}
-use Rattle.bitset.specs.Place.{Outside}
+use Rattle.bitset.specs.Calls.{containsOf, moveOf, allBelow, addAll, addListOf}
+use Rattle.bitset.specs.Edit.{holds, edits, addLayers, climb, removeLayers, layersOf, Placed, Moved}
+use Rattle.bitset.specs.Place.{Outside, stays}
 use Rattle.bitset.proofs.Moves.{add-none, add-all, add-one-layer, remove-none, remove-some}
 
 -- the code's test of the id's bit in its word
@@ -57,25 +58,9 @@ module _ (s : List ℕ) (i : ℕ) where
   unfolding containsOf
   contains-2 h = settled (rw h)
 
-  pub add-2 : isStore s ≡ false → Settled askedPaper (addOf s i) (AskedRefused 2) s
-  unfolding addOf
-  add-2 h = settled (rw h)
-
-  pub remove-2 : isStore s ≡ false → Settled askedPaper (removeOf s i) (AskedRefused 2) s
-  unfolding removeOf
-  remove-2 h = settled (rw h)
-
   pub contains-past : Outside s i → Settled askedPaper (containsOf s i) (Is false) tt
   unfolding containsOf
   contains-past o = settled (rw (is-store (o .store), o .store .names, o .past))
-
-  pub add-3 : Outside s i → Settled askedPaper (addOf s i) (AskedRefused 3) s
-  unfolding addOf
-  add-3 o = settled (rw (is-store (o .store), o .store .names, o .past))
-
-  pub remove-past : Outside s i → Settled askedPaper (removeOf s i) (Is false) s
-  unfolding removeOf
-  remove-past o = settled (rw (is-store (o .store), o .store .names, o .past))
 
   module _ (N : ℕ) (z : Placed s N i 0) where
     in-room : ltb i N ≡ true
@@ -85,13 +70,19 @@ module _ (s : List ℕ) (i : ℕ) where
     unfolding containsOf
     contains-is r e = settled (rw (is-store (z .store), z .store .names, in-room, ← e))
 
-    pub add-is : (r : Bool) (t : List ℕ) → Moved true s N i (addLayers N s i) t r → Settled askedPaper (addOf s i) (Is r) t
-    unfolding addOf
-    add-is r t m = settled (rw (is-store (z .store), z .store .names, in-room, ← m .answer, ← m .memory))
+  module _ (set : Bool) (past : Asked) where
+    pub change-2 : isStore s ≡ false → Settled askedPaper (moveOf set (stays past s) s i) (AskedRefused 2) s
+    unfolding moveOf
+    change-2 h = settled (rw h)
 
-    pub remove-is : (r : Bool) (t : List ℕ) → Moved false s N i (removeLayers N s i) t r → Settled askedPaper (removeOf s i) (Is r) t
-    unfolding removeOf
-    remove-is r t m = settled (rw (is-store (z .store), z .store .names, in-room, ← m .answer, ← m .memory))
+    pub change-past : Outside s i → Settled askedPaper (moveOf set (stays past s) s i) past s
+    unfolding moveOf
+    change-past o = settled (rw (is-store (o .store), o .store .names, o .past))
+
+    pub change-is : (N : ℕ) → Placed s N i 0 → (r : Bool) (t : List ℕ) → Moved set s N i (layersOf set N s i) t r
+        → Settled askedPaper (moveOf set (stays past s) s i) (Is r) t
+    unfolding moveOf
+    change-is N z r t m = settled (rw (is-store (z .store), z .store .names, in-room N z, ← m .answer, ← m .memory))
 
 -- ---- a list of ids
 

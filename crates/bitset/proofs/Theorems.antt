@@ -17,8 +17,8 @@ use Rattle.store.specs.Answer.{says, refuses}
 use Rattle.store.specs.Layout.{top, cap, isStore, StoreOf}
 use Rattle.store.specs.Word.{on, Member, Sound}
 use Rattle.store.proofs.Geometry.{is-store, store-is, store-kept}
-use Rattle.bitset.specs.Calls.{containsOf, addOf, removeOf, allBelow, addAll, addListOf}
-use Rattle.bitset.specs.Edit.{holds, edits, addLayers, removeLayers}
+use Rattle.bitset.specs.Calls.{containsOf, moveOf, addOf, removeOf, allBelow, addAll, addListOf}
+use Rattle.bitset.specs.Edit.{holds, edits, addLayers, removeLayers, layersOf}
 use Rattle.bitset.proofs.Edits.{length-edits, cap-edits}
 use Rattle.bitset.proofs.Moves.{sound-add, sound-remove, on-add, on-remove}
 
@@ -51,62 +51,52 @@ contains-member s i h = (to, from)
 
 -- ---- adding and removing, as one: `move true` adds and `move false` removes
 
-layers : Bool → ℕ → List ℕ → ℕ → ℕ
-layers true = addLayers
-layers false = removeLayers
-
 -- the id is moved where it has room, and nothing changes where it has none or the slice is no store
 move : Bool → List ℕ → ℕ → List ℕ
-move b s i = cond (isStore s) (cond (ltb i (cap s)) (edits b (cap s) s i (layers b (cap s) s i)) s) s
+move b s i = cond (isStore s) (cond (ltb i (cap s)) (edits b (cap s) s i (layersOf b (cap s) s i)) s) s
+
+moves : (b : Bool) (past : Outcome (List ℕ)) (s : List ℕ) (i : ℕ) → past .lent ≡ s → moveOf b past s i .lent ≡ move b s i
+unfolding moveOf move
+moves b past s i e = go (isStore s) (ltb i (cap s))
+  where
+    go : (x y : Bool)
+        → cond x (cond y (says (holds (cap s) s i) (edits b (cap s) s i (layersOf b (cap s) s i))) past) (refuses 2 s) .lent
+        ≡ cond x (cond y (edits b (cap s) s i (layersOf b (cap s) s i)) s) s
+    go true true = refl
+    go true false = e
+    go false y = refl
 
 add-moves : (s : List ℕ) (i : ℕ) → addOf s i .lent ≡ move true s i
-unfolding addOf move layers
-add-moves s i = go (isStore s) (ltb i (cap s))
-  where
-    go : (x y : Bool)
-        → cond x (cond y (says (holds (cap s) s i) (edits true (cap s) s i (addLayers (cap s) s i))) (refuses 3 s)) (refuses 2 s) .lent
-        ≡ cond x (cond y (edits true (cap s) s i (addLayers (cap s) s i)) s) s
-    go true true = refl
-    go true false = refl
-    go false y = refl
+add-moves s i = moves true (refuses 3 s) s i refl
 
 remove-moves : (s : List ℕ) (i : ℕ) → removeOf s i .lent ≡ move false s i
-unfolding removeOf move layers
-remove-moves s i = go (isStore s) (ltb i (cap s))
-  where
-    go : (x y : Bool)
-        → cond x (cond y (says (holds (cap s) s i) (edits false (cap s) s i (removeLayers (cap s) s i))) (says false s)) (refuses 2 s) .lent
-        ≡ cond x (cond y (edits false (cap s) s i (removeLayers (cap s) s i)) s) s
-    go true true = refl
-    go true false = refl
-    go false y = refl
+remove-moves s i = moves false (says false s) s i refl
 
 module _ (b : Bool) (s : List ℕ) (i : ℕ) where
   -- what holds of the store as it was, and of the store with the id moved, holds afterwards
-  moved : (P : List ℕ → Type 0) → P s → (StoreOf (cap s) s → i < cap s → P (edits b (cap s) s i (layers b (cap s) s i))) → P (move b s i)
+  moved : (P : List ℕ → Type 0) → P s → (StoreOf (cap s) s → i < cap s → P (edits b (cap s) s i (layersOf b (cap s) s i))) → P (move b s i)
   unfolding move
   moved P was now = go (isStore s) refl (ltb i (cap s)) refl
     where
-      go : (x : Bool) → isStore s ≡ x → (y : Bool) → ltb i (cap s) ≡ y → P (cond x (cond y (edits b (cap s) s i (layers b (cap s) s i)) s) s)
+      go : (x : Bool) → isStore s ≡ x → (y : Bool) → ltb i (cap s) ≡ y → P (cond x (cond y (edits b (cap s) s i (layersOf b (cap s) s i)) s) s)
       go true e true f = now (store-is e) (ltb-true i (cap s) f)
       go true e false f = was
       go false e y f = was
 
-  move-room : isStore s ≡ true → i < cap s → move b s i ≡ edits b (cap s) s i (layers b (cap s) s i)
+  move-room : isStore s ≡ true → i < cap s → move b s i ≡ edits b (cap s) s i (layersOf b (cap s) s i)
   unfolding move
   move-room h g = rw (h, lt-ltb i (cap s) g)
 
   cap-move : cap (move b s i) ≡ cap s
-  cap-move = moved (λ t. cap t ≡ cap s) refl (λ z g. cap-edits b (cap s) s i (layers b (cap s) s i))
+  cap-move = moved (λ t. cap t ≡ cap s) refl (λ z g. cap-edits b (cap s) s i (layersOf b (cap s) s i))
 
   length-move : length (move b s i) ≡ length s
-  length-move = moved (λ t. length t ≡ length s) refl (λ z g. length-edits b (cap s) s i (layers b (cap s) s i))
+  length-move = moved (λ t. length t ≡ length s) refl (λ z g. length-edits b (cap s) s i (layersOf b (cap s) s i))
 
   sound-move : Sound (cap s) s → Sound (cap (move b s i)) (move b s i)
-  unfolding layers
   sound-move z = rw cap-move (moved (Sound (cap s)) z (λ y g. go b y g))
     where
-      go : (x : Bool) → StoreOf (cap s) s → i < cap s → Sound (cap s) (edits x (cap s) s i (layers x (cap s) s i))
+      go : (x : Bool) → StoreOf (cap s) s → i < cap s → Sound (cap s) (edits x (cap s) s i (layersOf x (cap s) s i))
       go true y g = sound-add (cap s) s i (y .long) g z
       go false y g = sound-remove (cap s) s i (y .long) g z
 
@@ -116,7 +106,6 @@ pub sound-after-add : (s : List ℕ) (i : ℕ) → Sound (cap s) s → Sound (ca
 sound-after-add s i z = rw (add-moves s i) (sound-move true s i z)
 
 pub member-add : (s : List ℕ) (i j : ℕ) → isStore s ≡ true → i < cap s → Member (addOf s i .lent) j ↔ ((j ≡ i) ⊎ Member s j)
-unfolding layers
 member-add s i j h g = (to, from)
   where
     e : addOf s i .lent ≡ edits true (cap s) s i (addLayers (cap s) s i)
@@ -141,7 +130,6 @@ pub sound-after-remove : (s : List ℕ) (i : ℕ) → Sound (cap s) s → Sound 
 sound-after-remove s i z = rw (remove-moves s i) (sound-move false s i z)
 
 pub member-remove : (s : List ℕ) (i j : ℕ) → isStore s ≡ true → i < cap s → Member (removeOf s i .lent) j ↔ ((j ≢ i) × Member s j)
-unfolding layers
 member-remove s i j h g = (to, from)
   where
     e : removeOf s i .lent ≡ edits false (cap s) s i (removeLayers (cap s) s i)

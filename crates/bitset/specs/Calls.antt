@@ -6,27 +6,27 @@ use lib.Dec.{ltb}
 use Rattle.util.specs.Outcome.{Outcome}
 use Rattle.store.specs.Answer.{says, does, refuses}
 use Rattle.store.specs.Layout.{cap, isStore}
-use Rattle.bitset.specs.Edit.{holds, edits, addLayers, removeLayers}
+use Rattle.bitset.specs.Edit.{holds, edits, addLayers, layersOf}
 
 -- "`contains` .. for an id at or past N answer[s] no"
 unfoldable pub containsOf : List ℕ → ℕ → Outcome (Unit {0})
 containsOf s i = cond (isStore s) (says (ltb i (cap s) && holds (cap s) s i) tt) (refuses 2 tt)
 
--- "`add` answers whether the id was held already." Refusal 3: "an id at or past N".
-unfoldable pub addOf : List ℕ → ℕ → Outcome (List ℕ)
-addOf s i =
+-- An id added, or removed, where it has room; the answer is whether it was held. At or past N the outcome is `past`.
+unfoldable pub moveOf : Bool → Outcome (List ℕ) → List ℕ → ℕ → Outcome (List ℕ)
+moveOf set past s i =
     let N = cap s in
     cond (isStore s)
-    (cond (ltb i N) (says (holds N s i) (edits true N s i (addLayers N s i))) (refuses 3 s))
+    (cond (ltb i N) (says (holds N s i) (edits set N s i (layersOf set N s i))) past)
     (refuses 2 s)
 
+-- "`add` answers whether the id was held already." Refusal 3: "an id at or past N".
+abbrev pub addOf : List ℕ → ℕ → Outcome (List ℕ)
+addOf s i = moveOf true (refuses 3 s) s i
+
 -- "`remove` answers whether it was held. .. for an id at or past N answer[s] no and change[s] nothing."
-unfoldable pub removeOf : List ℕ → ℕ → Outcome (List ℕ)
-removeOf s i =
-    let N = cap s in
-    cond (isStore s)
-    (cond (ltb i N) (says (holds N s i) (edits false N s i (removeLayers N s i))) (says false s))
-    (refuses 2 s)
+abbrev pub removeOf : List ℕ → ℕ → Outcome (List ℕ)
+removeOf s i = moveOf false (says false s) s i
 
 -- "Adding a list of ids checks every id first, then adds all and answers only that it did; an empty list changes nothing."
 unfoldable pub allBelow : ℕ → List ℕ → Bool

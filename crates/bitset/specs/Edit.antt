@@ -41,6 +41,11 @@ climb N s i k (suc d) = let r = climb N s i (suc k) d in cond (eqb (left N s i k
 unfoldable pub removeLayers : ℕ → List ℕ → ℕ → ℕ
 removeLayers N s i = let r = climb N s i 0 (top N) in cond (holds N s i) r 0
 
+-- the layers that adding, or removing, writes
+abbrev pub layersOf : Bool → ℕ → List ℕ → ℕ → ℕ
+layersOf true = addLayers
+layersOf false = removeLayers
+
 -- ---- what the private steps ask and leave: s is a store of capacity N, with room for id i
 
 pub record Placed (s : List ℕ) (N i k : ℕ) : Type 0 where

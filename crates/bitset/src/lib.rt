@@ -7,9 +7,9 @@ ghost use Rattle.util.specs.Outcome.{Settled};
 ghost use Rattle.store.specs.Answer.{askedPaper, didPaper};
 ghost use Rattle.store.specs.Layout.{top, StoreOf};
 ghost use Rattle.store.specs.Word.{word};
-ghost use Rattle.bitset.specs.Edit.{edits, addLayers, climb, removeLayers, Placed, Edited, Moved};
-ghost use Rattle.bitset.specs.Place.{Located};
-ghost use Rattle.bitset.specs.Calls.{containsOf, addOf, removeOf, allBelow, addAll, addListOf};
+ghost use Rattle.bitset.specs.Edit.{edits, addLayers, climb, removeLayers, layersOf, Placed, Edited, Moved};
+ghost use Rattle.bitset.specs.Place.{Located, stays};
+ghost use Rattle.bitset.specs.Calls.{containsOf, moveOf, addOf, removeOf, allBelow, addAll, addListOf};
 use store::Asked;
 use store::Did;
 
@@ -119,6 +119,29 @@ fn remove_in(store: &mut [u64], n: usize, id: u32) -> bool
     true
 }
 
+// An id added, or removed, in a store with room for it; answers whether it was held.
+fn move_in(store: &mut [u64], n: usize, id: u32, on: bool) -> bool
+    requires { ⌜ Placed (now store) n id 0 ⌝ }
+    ensures { λ r. ⌜ Moved on (now (store .entry)) n id (layersOf on n (now (store .entry)) id) (now (store .exit)) r ⌝ }
+{
+    if on {
+        add_in(store, n, id)
+    } else {
+        remove_in(store, n, id)
+    }
+}
+
+// An id added, or removed, where it has room; `past` is the answer past the end.
+fn change(store: &mut [u64], id: u32, on: bool, past: Asked) -> Asked
+    ensures { λ r. ⌜ Settled askedPaper (moveOf on (stays past (now (store .entry))) (now (store .entry)) id) r (now (store .exit)) ⌝ }
+{
+    match locate(store, id) {
+        Place::In(n) => Asked::Is(move_in(store, n, id, on)),
+        Place::Past => past,
+        Place::Nowhere => Asked::Refused(2),
+    }
+}
+
 // Whether the id is a member: below the capacity, with its layer-0 bit set.
 pub fn contains(store: &[u64], id: u32) -> Asked
     ensures { λ r. ⌜ Settled askedPaper (containsOf (now (store .entry)) id) r tt ⌝ }
@@ -134,22 +157,14 @@ pub fn contains(store: &[u64], id: u32) -> Asked
 pub fn add(store: &mut [u64], id: u32) -> Asked
     ensures { λ r. ⌜ Settled askedPaper (addOf (now (store .entry)) id) r (now (store .exit)) ⌝ }
 {
-    match locate(store, id) {
-        Place::In(n) => Asked::Is(add_in(store, n, id)),
-        Place::Past => Asked::Refused(3),
-        Place::Nowhere => Asked::Refused(2),
-    }
+    change(store, id, true, Asked::Refused(3))
 }
 
 // Removes an id; answers whether it was held.
 pub fn remove(store: &mut [u64], id: u32) -> Asked
     ensures { λ r. ⌜ Settled askedPaper (removeOf (now (store .entry)) id) r (now (store .exit)) ⌝ }
 {
-    match locate(store, id) {
-        Place::In(n) => Asked::Is(remove_in(store, n, id)),
-        Place::Past => Asked::Is(false),
-        Place::Nowhere => Asked::Refused(2),
-    }
+    change(store, id, false, Asked::Is(false))
 }
 
 // Whether every id of the list has room.
