@@ -1,6 +1,5 @@
-//! An independent reading of document 01, as plain Rust over words: where a store's words stand, which slices are stores, the refusals,
-//! and what the calls do to words that no set of the crate can have. It shares nothing with the port. The steps of adding and removing
-//! are those of the crate, told layer by layer.
+//! What the crate has not, as an independent reading of document 01, plain Rust over words: where a store's words stand, which slices
+//! are stores, which stores are sound, and the summaries that layer 0 asks. It shares nothing with the port.
 
 /// The largest capacity.
 pub const LIMIT: u64 = 16_777_216;
@@ -33,50 +32,6 @@ pub fn capacity(words: &[u64]) -> Result<u64, u64> {
         Some(&n) if is_capacity(n) && words.len() == length(n) => Ok(n),
         _ => Err(2),
     }
-}
-
-/// The word over an id in layer k, and the id's bit in it.
-fn place(n: u64, id: u64, k: usize) -> (usize, u64) {
-    let upper = id >> (6 * k);
-    (starts(n)[k] + (upper / 64) as usize, 1 << (upper % 64))
-}
-
-pub fn contains(words: &[u64], n: u64, id: u64) -> bool {
-    let (at, bit) = place(n, id, 0);
-    id < n && words[at] & bit != 0
-}
-
-/// Adds an id below n to the words as found; whether it was held. Only where the layer-0 word was 0 are the other layers written.
-pub fn add(words: &mut [u64], n: u64, id: u64) -> bool {
-    if contains(words, n, id) {
-        return true;
-    }
-    let old = words[place(n, id, 0).0];
-    for k in 0..if old == 0 { 4 } else { 1 } {
-        let (at, bit) = place(n, id, k);
-        words[at] |= bit;
-    }
-    false
-}
-
-/// Removes an id from the words as found; whether it was held. A layer is written only where the word below it became 0.
-pub fn remove(words: &mut [u64], n: u64, id: u64) -> bool {
-    if !contains(words, n, id) {
-        return false;
-    }
-    for k in 0..4 {
-        let (at, bit) = place(n, id, k);
-        words[at] &= !bit;
-        if words[at] != 0 {
-            break;
-        }
-    }
-    true
-}
-
-/// The lowest id below n that is not a member, or refusal 12.
-pub fn free(words: &[u64], n: u64) -> Result<u64, u64> {
-    (0..n).find(|&id| !contains(words, n, id)).ok_or(12)
 }
 
 /// No bit where no id or word exists, and every summary bit exactly where the word that it stands for is not zero.

@@ -1,9 +1,10 @@
 //! The memory and the slots of a script, and the crate's answers to the calls on stores.
 //!
-//! A slot that was opened, or whose words are those of a set that the crate itself can build, has a set of the crate: every answer and
-//! every word comes from that set. Where words were poked to what no such set has, they come from the model.
+//! Every slot that is a store has a set of the crate while it is used: every answer and every word comes from that set, also where
+//! words were poked to what no set has. The crate hands out its words to be read only, so they are written at their addresses.
 use crate::model;
 use hibitset::{BitSet, BitSetLike};
+use std::mem::size_of;
 
 const MEMORY: usize = 550_000;
 
@@ -20,19 +21,56 @@ struct Set {
     cleared: bool,
 }
 
+/// Where layer 3 stands among the words of a set: there is no call that writes it.
+fn top_place() -> usize {
+    let mut probe = BitSet::new();
+    probe.add(0);
+    probe.add(63 << 18);
+    let marked = 1 << 63 | 1;
+    assert_eq!(probe.layer3(), marked);
+    let fields = &probe as *const BitSet as *const usize;
+    let places: Vec<usize> = (0..size_of::<BitSet>() / size_of::<usize>()).filter(|&i| unsafe { fields.add(i).read() } == marked).collect();
+    assert_eq!(places.len(), 1);
+    places[0]
+}
+
 impl Set {
     fn new(n: u64) -> Set {
         Set { n, bits: BitSet::with_capacity(n as u32 - 1), cleared: false }
     }
 
-    fn layer(&self, k: usize) -> Vec<u64> {
-        let slice = match k {
+    /// The set with the words of a store of capacity n, whatever they are.
+    fn of(n: u64, words: &[u64]) -> Set {
+        let mut set = Set::new(n);
+        for k in 0..3 {
+            let start = model::starts(n)[k];
+            let part = &words[start..start + model::sizes(n)[k]];
+            let slice = set.slice(k);
+            assert_eq!(slice.len(), part.len());
+            let to = slice.as_ptr() as *mut usize;
+            for (i, &w) in part.iter().enumerate() {
+                unsafe { to.add(i).write_volatile(w as usize) };
+            }
+        }
+        let fields = &mut set.bits as *mut BitSet as *mut usize;
+        unsafe { fields.add(top_place()).write_volatile(words[1] as usize) };
+        assert_eq!(set.words(), words);
+        set
+    }
+
+    fn slice(&self, k: usize) -> &[usize] {
+        match k {
             0 => self.bits.layer0_as_slice(),
             1 => self.bits.layer1_as_slice(),
-            2 => self.bits.layer2_as_slice(),
-            _ => return vec![self.bits.layer3() as u64],
-        };
-        let mut words: Vec<u64> = slice.iter().map(|&w| w as u64).collect();
+            _ => self.bits.layer2_as_slice(),
+        }
+    }
+
+    fn layer(&self, k: usize) -> Vec<u64> {
+        if k == 3 {
+            return vec![self.bits.layer3() as u64];
+        }
+        let mut words: Vec<u64> = self.slice(k).iter().map(|&w| w as u64).collect();
         if self.cleared {
             words.resize(model::sizes(self.n)[k], 0);
         }
@@ -49,14 +87,12 @@ impl Set {
     }
 }
 
-/// A slot's part of the memory. Where it has a set, the words are the set's and those of the memory are out of date. `looked` says
-/// that the words are no set's.
+/// A slot's part of the memory. Where it has a set, the words are the set's and those of the memory are out of date.
 #[derive(Default)]
 struct Slot {
     from: usize,
     len: usize,
     set: Option<Set>,
-    looked: bool,
 }
 
 pub struct Stores {
@@ -127,7 +163,6 @@ impl Stores {
     /// A slot's set goes back into the memory.
     fn put_back(&mut self, s: usize) {
         let slot = &mut self.slots[s];
-        slot.looked = false;
         if let Some(set) = slot.set.take() {
             self.memory[slot.from..slot.from + slot.len].copy_from_slice(&set.words());
         }
@@ -142,33 +177,15 @@ impl Stores {
         }
     }
 
-    /// The capacity of a slot that is a store. If its words are those of a set that the crate can build, it has such a set afterwards.
-    fn store(&mut self, s: usize) -> Result<u64, u64> {
+    /// The set of a slot that is a store.
+    fn store(&mut self, s: usize) -> Result<&mut Set, u64> {
         self.settle(s);
         let slot = &mut self.slots[s];
-        if let Some(set) = &slot.set {
-            return Ok(set.n);
+        if slot.set.is_none() {
+            let words = &self.memory[slot.from..slot.from + slot.len];
+            slot.set = Some(Set::of(model::capacity(words)?, words));
         }
-        let words = &self.memory[slot.from..slot.from + slot.len];
-        let n = model::capacity(words)?;
-        if !slot.looked {
-            slot.looked = true;
-            let mut set = Set::new(n);
-            for id in (0..n).filter(|&id| model::contains(words, n, id)) {
-                set.bits.add(id as u32);
-            }
-            if set.words() == words {
-                slot.set = Some(set);
-            }
-        }
-        Ok(n)
-    }
-
-    /// The words of a store that has no set.
-    fn found(&mut self, s: usize) -> &mut [u64] {
-        let slot = &self.slots[s];
-        assert!(slot.set.is_none());
-        &mut self.memory[slot.from..slot.from + slot.len]
+        Ok(slot.set.as_mut().unwrap())
     }
 
     fn lend(&mut self, s: usize, from: u64, len: u64) -> Option<Vec<u64>> {
@@ -176,7 +193,7 @@ impl Stores {
             return None;
         }
         self.put_back(s);
-        self.slots[s] = Slot { from: from as usize, len: len as usize, set: None, looked: false };
+        self.slots[s] = Slot { from: from as usize, len: len as usize, set: None };
         Some(vec![0])
     }
 
@@ -186,7 +203,8 @@ impl Stores {
             return None;
         }
         self.put_back(s);
-        self.found(s)[i as usize] = w;
+        let at = self.slots[s].from + i as usize;
+        self.memory[at] = w;
         Some(vec![0])
     }
 
@@ -203,84 +221,46 @@ impl Stores {
     }
 
     fn clear(&mut self, s: usize) -> Result<u64, u64> {
-        self.store(s)?;
-        match &mut self.slots[s].set {
-            Some(set) => {
-                set.bits.clear();
-                set.cleared = true;
-            }
-            None => {
-                self.found(s)[1..].fill(0);
-                self.slots[s].looked = false;
-            }
-        }
+        let set = self.store(s)?;
+        set.bits.clear();
+        set.cleared = true;
         Ok(0)
     }
 
     fn add(&mut self, s: usize, i: u32) -> Result<u64, u64> {
-        let n = self.store(s)?;
-        if u64::from(i) >= n {
+        let set = self.store(s)?;
+        if u64::from(i) >= set.n {
             return Err(3);
         }
-        let held = match &mut self.slots[s].set {
-            Some(set) => set.bits.add(i),
-            None => model::add(self.found(s), n, i.into()),
-        };
-        Ok(held.into())
+        Ok(set.bits.add(i).into())
     }
 
     fn remove(&mut self, s: usize, i: u32) -> Result<u64, u64> {
-        let n = self.store(s)?;
-        if u64::from(i) >= n {
-            return Ok(0);
-        }
-        let held = match &mut self.slots[s].set {
-            Some(set) => set.bits.remove(i),
-            None => model::remove(self.found(s), n, i.into()),
-        };
-        Ok(held.into())
+        let set = self.store(s)?;
+        Ok((u64::from(i) < set.n && set.bits.remove(i)).into())
     }
 
     fn contains(&mut self, s: usize, i: u32) -> Result<u64, u64> {
-        let n = self.store(s)?;
-        if u64::from(i) >= n {
-            return Ok(0);
-        }
-        let held = match &self.slots[s].set {
-            Some(set) => set.bits.contains(i),
-            None => model::contains(self.found(s), n, i.into()),
-        };
-        Ok(held.into())
+        let set = self.store(s)?;
+        Ok((u64::from(i) < set.n && set.bits.contains(i)).into())
     }
 
     fn list(&mut self, s: usize, ids: &[u32]) -> Result<u64, u64> {
-        let n = self.store(s)?;
-        if ids.iter().any(|&i| u64::from(i) >= n) {
+        let set = self.store(s)?;
+        if ids.iter().any(|&i| u64::from(i) >= set.n) {
             return Err(3);
         }
-        match &mut self.slots[s].set {
-            Some(set) => Extend::extend(&mut set.bits, ids.iter().copied()),
-            None => {
-                for &i in ids {
-                    model::add(self.found(s), n, i.into());
-                }
-            }
-        }
+        Extend::extend(&mut set.bits, ids.iter().copied());
         Ok(0)
     }
 
     fn is_empty(&mut self, s: usize) -> Result<u64, u64> {
-        self.store(s)?;
-        let empty = match &self.slots[s].set {
-            Some(set) => set.bits.is_empty(),
-            None => self.found(s)[1] == 0,
-        };
-        Ok(empty.into())
+        Ok(self.store(s)?.bits.is_empty().into())
     }
 
     fn equal(&mut self, s: usize, t: usize) -> Result<u64, u64> {
-        let n = self.store(s)?;
-        if self.store(t)? != n {
+        let n = self.store(s)?.n;
+        if self.store(t)?.n != n {
             return Err(5);
         }
         // Looking at the one may have put the other's set back.
@@ -296,53 +276,34 @@ impl Stores {
 
     /// The crate has no such call: the words of its set are judged.
     fn is_sound(&mut self, s: usize) -> Result<u64, u64> {
-        let n = self.store(s)?;
-        Ok(model::is_sound(&self.words(s), n).into())
+        let set = self.store(s)?;
+        Ok(model::is_sound(&set.words(), set.n).into())
     }
 
     fn free(&mut self, s: usize) -> Result<u64, u64> {
-        let n = self.store(s)?;
-        match &self.slots[s].set {
-            Some(set) => (0..n).find(|&id| !set.bits.contains(id as u32)).ok_or(12),
-            None => model::free(self.found(s), n),
-        }
+        let set = self.store(s)?;
+        (0..set.n).find(|&id| !set.bits.contains(id as u32)).ok_or(12)
     }
 
-    /// The crate has no such call. Nothing changes in the words of a set of the crate's, and those of no set are rebuilt by the model.
+    /// The crate has no such call: the words of its set are rebuilt by the model.
     fn rebuild(&mut self, s: usize) -> Result<u64, u64> {
-        let n = self.store(s)?;
-        if self.slots[s].set.is_none() {
-            model::rebuild(self.found(s), n);
-            self.slots[s].looked = false;
-        }
+        let set = self.store(s)?;
+        let mut words = set.words();
+        model::rebuild(&mut words, set.n);
+        *set = Set::of(set.n, &words);
         Ok(0)
     }
 
     fn word(&mut self, s: usize, k: u64, i: u64) -> Result<u64, u64> {
-        let n = self.store(s)?;
+        let set = self.store(s)?;
         if k > 3 {
             return Err(4);
         }
-        let (k, i) = (k as usize, i as usize);
-        Ok(match &self.slots[s].set {
-            Some(set) => set.bits.get_from_layer(k, i) as u64,
-            None if k == 3 => self.found(s)[1],
-            None if i < model::sizes(n)[k] => self.found(s)[model::starts(n)[k] + i],
-            None => 0,
-        })
+        Ok(set.bits.get_from_layer(k as usize, i as usize) as u64)
     }
 
     fn layer(&mut self, s: usize, k: usize) -> Vec<u64> {
-        let words = match self.store(s) {
-            Err(_) => Vec::new(),
-            Ok(n) => match &self.slots[s].set {
-                Some(set) => set.layer(k),
-                None => {
-                    let start = model::starts(n)[k];
-                    self.found(s)[start..start + model::sizes(n)[k]].to_vec()
-                }
-            },
-        };
+        let words = self.store(s).map_or_else(|_| Vec::new(), |set| set.layer(k));
         vec![words.len() as u64, model::digest(words)]
     }
 }
