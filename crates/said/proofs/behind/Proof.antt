@@ -1,0 +1,14 @@
+-- `said::behind` meets its contract. Assumes nothing.
+use mathlib.Core.Path.{sym}
+use borrow.Author.Tests.{lt-ltb, le-ltb}
+use Rattle.said.proofs.behind.Statement.{statement}
+use Rattle.said.proofs.behind.Tie as tie
+
+returns : tie.Need-returns
+returns c = sym (rw (lt-ltb _ _ (c .if1 .taken)))
+
+returns-2 : tie.Need-returns-2
+returns-2 c = sym (rw (le-ltb _ _ (c .if1 .left)))
+
+pub behind-spec : {M : Type 1} → statement M
+behind-spec = tie.close (tie.spec returns returns-2)

@@ -1,0 +1,28 @@
+-- `said::put_unknown` meets its contract. Assumes nothing.
+use Rattle.said.proofs.Rows.{put-front}
+use borrow.Author.Needs.{needs}
+use Rattle.said.proofs.put_unknown.Statement.{statement}
+use Rattle.said.proofs.put_unknown.Tie as tie
+
+put-requires : tie.Need-put-requires
+put-requires c κs = search needs
+
+put-requires-2 : tie.Need-put-requires-2
+put-requires-2 c κs = search needs
+
+number-requires : tie.Need-number-requires
+number-requires c κs = search needs
+
+same-length : tie.Need-same-length
+same-length c = search needs
+
+returns : tie.Need-returns
+returns c =
+    let n = c .before .before in
+    let p = n .before .before .before .before in
+    let q = p .before .before .before .before in
+    put-front _ _ _ _ (q .put .ensures) (put-front _ _ _ _ (p .put2 .ensures) (n .number .ensures))
+
+pub put-unknown-spec : {M : Type 1} → statement M
+put-unknown-spec =
+    tie.close (tie.spec put-requires put-requires-2 number-requires same-length returns)
