@@ -11,20 +11,14 @@ use native.Mathlib.Numerals.{add-one}
 use lib.ListN.{length, take, drop, getD, drop-of-length-le}
 use lib.Seq.{drop-cons, drop-length}
 use Rattle.util.specs.Outcome.{Paper}
-use Rattle.text.specs.Out.{Held, held, putOf, putAllOf, decimalOf}
+use Rattle.text.specs.Out.{Held, held, putAllOf, decimalOf}
+use Rattle.text.proofs.Out.{put-append}
 use Rattle.said.specs.Numbers.{saidOf, behindOf, rowOf, listedOf, lineOf}
 use Rattle.said.specs.declared.Said.{Said}
 
 -- the numbers of an answer that is known
 pub told : {R : Type 0} (p : Paper R) {r r′ : R} {n : Said} → n ≡ saidOf (p .numbers r′) → r ≡ r′ → n ≡ saidOf (p .numbers r)
 told p e same = e ∙ ap (λ (x : _). saidOf (p .numbers x)) (sym same)
-
--- bytes behind bytes
-pub put-append : (buf : List ℕ) (at : ℕ) (xs ys : List ℕ) →
-    putAllOf buf at (xs ++ ys) ≡ putAllOf (putAllOf buf at xs .buf) (putAllOf buf at xs .at) ys
-unfolding putAllOf
-put-append buf at [] ys = refl
-put-append buf at (x ∷ xs) ys = put-append (putOf buf at x .buf) (putOf buf at x .at) xs ys
 
 -- The loop: what is left, put behind what was put, is the whole.
 pub record Putting (buf₀ : List ℕ) (at : ℕ) (list buf : List ℕ) (filled i : ℕ) : Type 0 where
@@ -34,18 +28,6 @@ pub record Putting (buf₀ : List ℕ) (at : ℕ) (list buf : List ℕ) (filled 
 
 pub puts-none : (buf : List ℕ) (at : ℕ) (list : List ℕ) → Putting buf at list buf at 0
 puts-none buf at list = record { inside = omega arith; long = refl; same = refl }
-
--- a byte behind bytes
-pub put-behind : (buf₀ : List ℕ) (at₀ : ℕ) (xs : List ℕ) (b : ℕ) {buf : List ℕ} {at : ℕ} {buf′ : List ℕ} {at′ : ℕ} → held buf at ≡ putAllOf buf₀ at₀ xs
-    → held buf′ at′ ≡ putOf buf at b → held buf′ at′ ≡ putAllOf buf₀ at₀ (xs ++ (b ∷ []))
-unfolding putAllOf
-put-behind buf₀ at₀ xs b e f = f ∙ ap (λ (x : Held). putOf (x .buf) (x .at) b) e ∙ sym (put-append buf₀ at₀ xs (b ∷ []))
-
--- bytes behind a byte
-pub put-front : (buf₀ : List ℕ) (at₀ b : ℕ) (xs : List ℕ) {buf : List ℕ} {at : ℕ} {h : Held} → held buf at ≡ putOf buf₀ at₀ b
-    → h ≡ putAllOf buf at xs → h ≡ putAllOf buf₀ at₀ (b ∷ xs)
-unfolding putAllOf
-put-front buf₀ at₀ b xs e f = f ∙ ap (λ (x : Held). putAllOf (x .buf) (x .at) xs) e
 
 -- what stands behind number i - 1 of a list
 behind-is : (list : List ℕ) (i : ℕ) → cond (ltb i (length list)) 32 10 ≡ behindOf (drop i list)

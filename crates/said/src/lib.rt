@@ -113,8 +113,8 @@ pub fn put_row(buf: &mut [u8], at: usize, list: &[u64]) -> usize
     a
 }
 
-// `?` and the line's number.
-fn put_unknown(buf: &mut [u8], at: usize, line: u64) -> usize
+// `?` and the number of a line that says nothing.
+pub fn put_unknown(buf: &mut [u8], at: usize, line: u64) -> usize
     ensures { λ r. ⌜ held (now (buf .exit)) r ≡ putAllOf (now (buf .entry)) at (63 ∷ 32 ∷ (decimalOf line ++ (10 ∷ []))) ⌝ }
 {
     let a = text::put(buf, at, b'?');

@@ -1,5 +1,5 @@
 -- A byte put into a buffer, and bytes one after the other.
-use mathlib.Core.List.{List}
+use mathlib.Core.List.{List, [], _∷_, _++_}
 use mathlib.Core.Path.{_≡_, refl, sym, ap, _∙_}
 use Prim.Native.Nat.{ℕ, _+_, _≤_, _<_, min}
 use native.Mathlib.Omega.{arith}
@@ -52,3 +52,28 @@ module _ {buf₀ : List ℕ} {at : ℕ} {bytes buf : List ℕ} {filled i : ℕ} 
             ∙ rw add-one (ap (putAllOf buf filled) (sym (drop-cons bytes i 0 h)))
             ∙ p .same;
       }
+
+-- ---- bytes behind bytes
+
+pub put-append : (buf : List ℕ) (at : ℕ) (xs ys : List ℕ) →
+    putAllOf buf at (xs ++ ys) ≡ putAllOf (putAllOf buf at xs .buf) (putAllOf buf at xs .at) ys
+unfolding putAllOf
+put-append buf at [] ys = refl
+put-append buf at (x ∷ xs) ys = put-append (putOf buf at x .buf) (putOf buf at x .at) xs ys
+
+-- the same, where what stands behind is put into the buffer that the bytes left
+pub puts-behind : (buf₀ : List ℕ) (at₀ : ℕ) (xs ys : List ℕ) {buf : List ℕ} {at : ℕ} {h : Held} → held buf at ≡ putAllOf buf₀ at₀ xs
+    → h ≡ putAllOf buf at ys → h ≡ putAllOf buf₀ at₀ (xs ++ ys)
+puts-behind buf₀ at₀ xs ys e f = f ∙ ap (λ (x : Held). putAllOf (x .buf) (x .at) ys) e ∙ sym (put-append buf₀ at₀ xs ys)
+
+-- a byte behind bytes
+pub put-behind : (buf₀ : List ℕ) (at₀ : ℕ) (xs : List ℕ) (b : ℕ) {buf : List ℕ} {at : ℕ} {buf′ : List ℕ} {at′ : ℕ} → held buf at ≡ putAllOf buf₀ at₀ xs
+    → held buf′ at′ ≡ putOf buf at b → held buf′ at′ ≡ putAllOf buf₀ at₀ (xs ++ (b ∷ []))
+unfolding putAllOf
+put-behind buf₀ at₀ xs b e f = f ∙ ap (λ (x : Held). putOf (x .buf) (x .at) b) e ∙ sym (put-append buf₀ at₀ xs (b ∷ []))
+
+-- bytes behind a byte
+pub put-front : (buf₀ : List ℕ) (at₀ b : ℕ) (xs : List ℕ) {buf : List ℕ} {at : ℕ} {h : Held} → held buf at ≡ putOf buf₀ at₀ b
+    → h ≡ putAllOf buf at xs → h ≡ putAllOf buf₀ at₀ (b ∷ xs)
+unfolding putAllOf
+put-front buf₀ at₀ b xs e f = f ∙ ap (λ (x : Held). putAllOf (x .buf) (x .at) xs) e

@@ -1,5 +1,5 @@
 -- `said::number` meets its contract. Assumes nothing.
-use Rattle.said.proofs.Rows.{put-behind}
+use Rattle.text.proofs.Out.{put-behind}
 use borrow.Author.Needs.{needs}
 use Rattle.said.proofs.number.Statement.{statement}
 use Rattle.said.proofs.number.Tie as tie

@@ -1,5 +1,5 @@
 -- `said::put_unknown` meets its contract. Assumes nothing.
-use Rattle.said.proofs.Rows.{put-front}
+use Rattle.text.proofs.Out.{put-front}
 use borrow.Author.Needs.{needs}
 use Rattle.said.proofs.put_unknown.Statement.{statement}
 use Rattle.said.proofs.put_unknown.Tie as tie
