@@ -7,6 +7,8 @@ mod model;
 mod scripts;
 mod store_scripts;
 mod stores;
+mod walk_scripts;
+mod walks;
 
 use std::io::{self, BufWriter, Read, Write};
 
@@ -23,13 +25,15 @@ fn main() -> io::Result<()> {
         ["script", "top"] => store_scripts::top(&mut out)?,
         ["script", "unsound"] => store_scripts::unsound(&mut out)?,
         ["script", "refusal"] => store_scripts::refusal(&mut out)?,
+        ["script", "walk"] => walk_scripts::walk(&mut out)?,
+        ["script", "cursor"] => walk_scripts::cursor(&mut out)?,
         ["answer"] => {
             let mut script = Vec::new();
             io::stdin().lock().read_to_end(&mut script)?;
             answers::all(&script, &mut out)?;
         }
         _ => {
-            eprintln!("usage: oracle script average | row | bad | small | history | top | unsound | refusal; oracle answer <SCRIPT");
+            eprintln!("usage: oracle script average | row | bad | small | history | top | unsound | refusal | walk | cursor; oracle answer <SCRIPT");
             std::process::exit(2);
         }
     }

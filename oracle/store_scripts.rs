@@ -4,7 +4,7 @@ use crate::scripts::Random;
 use std::io::{self, Write};
 
 /// The capacities at which something changes: a word, a layer's word, and one more or less.
-const CAPACITIES: &[u64] =
+pub const CAPACITIES: &[u64] =
     &[1, 2, 63, 64, 65, 127, 4_095, 4_096, 4_097, 262_143, 262_144, 262_145, 1_048_576];
 
 /// Two stores of capacity n, side by side, in the slots 0 and 1.
@@ -61,7 +61,7 @@ fn ask_all(out: &mut impl Write, n: u64) -> io::Result<()> {
 }
 
 /// An id below n: in few words around the borders of words and layers, so that words become 0 again, or anywhere.
-fn id(r: &mut Random, n: u64) -> u64 {
+pub fn id(r: &mut Random, n: u64) -> u64 {
     let border = [0, 64, 4_096, 262_144, n - 1, n / 2][r.below(6)];
     let near = border + [0, 1, 2, 62, 63, 64, 65][r.below(7)];
     let near = near.wrapping_sub([0, 0, 1, 64, 4_096][r.below(5)]);

@@ -3,6 +3,7 @@
 //! Every slot that is a store has a set of the crate while it is used: every answer and every word comes from that set, also where
 //! words were poked to what no set has. The crate hands out its words to be read only, so they are written at their addresses.
 use crate::model;
+use crate::walks::{self, Answer, Cursor, Step};
 use hibitset::{BitSet, BitSetLike};
 use std::mem::size_of;
 
@@ -145,6 +146,9 @@ impl Stores {
             ("free", &[]) => paper(self.free(s)),
             ("rebuild", &[]) => paper(self.rebuild(s)),
             ("layer", &[k]) if k < 3 => Some(self.layer(s, k as usize)),
+            ("superset", &[t]) if t < SLOTS as u64 => paper(self.superset(s, t as usize)),
+            ("start", &[t]) if t < SLOTS as u64 => self.start(s, t as usize),
+            ("next", &[t, budget]) if t < SLOTS as u64 => self.next(s, t as usize, budget),
             _ => None,
         }
     }
@@ -305,5 +309,57 @@ impl Stores {
     fn layer(&mut self, s: usize, k: usize) -> Vec<u64> {
         let words = self.store(s).map_or_else(|_| Vec::new(), |set| set.layer(k));
         vec![words.len() as u64, model::digest(words)]
+    }
+
+    /// The crate's own call, unless the other's walk hands out an id at or past the capacity: none is a member.
+    fn superset(&mut self, s: usize, t: usize) -> Result<u64, u64> {
+        let n = self.store(s)?.n;
+        if self.store(t)?.n != n {
+            return Err(5);
+        }
+        // Looking at the one may have put the other's set back.
+        let one = Set::of(n, &self.words(s));
+        let other = Set::of(n, &self.words(t));
+        let inside = (&other.bits).iter().all(|id| u64::from(id) < n);
+        Ok((inside && one.bits.contains_set(&other.bits)).into())
+    }
+
+    /// The cursor in the first seven words of a slot.
+    fn cursor(&mut self, c: usize) -> Option<Cursor> {
+        let words = self.words(c);
+        let prefix: Vec<u32> = words.get(4..7)?.iter().map(|&p| id(p)).collect::<Option<_>>()?;
+        Some(Cursor { masks: words[..4].try_into().ok()?, prefix: prefix.try_into().ok()? })
+    }
+
+    /// A step's cursor goes into its slot, and its answer is told: the refusal's number alone, or which answer, the id and the reads.
+    fn step(&mut self, c: usize, step: Result<Step, u64>) -> Option<Vec<u64>> {
+        let step = match step {
+            Ok(step) => step,
+            Err(refusal) => return Some(vec![refusal]),
+        };
+        let prefix = step.cursor.prefix.map(u64::from);
+        for (i, &w) in step.cursor.masks.iter().chain(&prefix).enumerate() {
+            self.poke(c, i as u64, w);
+        }
+        Some(match step.answer {
+            Answer::Member(id) => vec![1, id.into(), step.reads],
+            Answer::Paused => vec![2, 0, step.reads],
+            Answer::End => vec![3, 0, step.reads],
+        })
+    }
+
+    fn start(&mut self, c: usize, s: usize) -> Option<Vec<u64>> {
+        self.cursor(c)?;
+        let step = self.store(s).map(|set| walks::start(&set.bits));
+        self.step(c, step)
+    }
+
+    fn next(&mut self, c: usize, s: usize, budget: u64) -> Option<Vec<u64>> {
+        let cursor = self.cursor(c)?;
+        let step = self.store(s).and_then(|set| match walks::is_cursor(&cursor) {
+            true => Ok(walks::next(&set.bits, &cursor, budget)),
+            false => Err(7),
+        });
+        self.step(c, step)
     }
 }

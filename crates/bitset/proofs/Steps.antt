@@ -78,6 +78,11 @@ module _ {s : List ℕ} {N i k : ℕ} (p : Placed s N i k) (a e q : ℕ)
 -- ---- a run of steps: the m lowest layers are edited
 
 module _ (on : Bool) {s : List ℕ} {N i : ℕ} (p : Placed s N i 0) where
+  -- at first no layer is edited
+  pub none-yet : s ≡ edits on N s i 0
+  unfolding edits
+  none-yet = refl
+
   -- the next step may be made
   pub placed : (k : ℕ) (t : List ℕ) → k ≤ top N → t ≡ edits on N s i k → Placed t N i k
   placed k t h e =

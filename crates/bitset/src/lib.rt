@@ -64,16 +64,15 @@ fn edit(store: &mut [u64], n: usize, id: u32, k: usize, on: bool) -> u64
     w
 }
 
-// The bit over an id set in the m lowest layers.
-fn mark(store: &mut [u64], n: usize, id: u32, m: usize)
-    requires { ⌜ (Placed (now store) n id 0) × (m ≤ suc (top n)) ⌝ }
-    ensures { λ r. ⌜ now (store .exit) ≡ edits true n (now (store .entry)) id m ⌝ }
+// The bit over an id set in every layer. A literal layer number lets the compiler fold the layer's place.
+fn mark(store: &mut [u64], n: usize, id: u32)
+    requires { ⌜ Placed (now store) n id 0 ⌝ }
+    ensures { λ r. ⌜ now (store .exit) ≡ edits true n (now (store .entry)) id (suc (top n)) ⌝ }
 {
-    let mut k = 0usize;
-    while k < m {
-        edit(store, n, id, k, true);
-        k += 1;
-    }
+    edit(store, n, id, 0, true);
+    edit(store, n, id, 1, true);
+    edit(store, n, id, 2, true);
+    edit(store, n, id, 3, true);
 }
 
 // The bit over an id cleared in layer 0 and, while words become 0, in the layer above.
@@ -100,10 +99,10 @@ fn add_in(store: &mut [u64], n: usize, id: u32) -> bool
         return true;
     }
     if old == 0 {
-        mark(store, n, id, 4);
+        mark(store, n, id);
         return false;
     }
-    mark(store, n, id, 1);
+    edit(store, n, id, 0, true);
     false
 }
 

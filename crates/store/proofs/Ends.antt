@@ -1,16 +1,17 @@
 -- Where the layers end as plain divisions, and what a caller learns from the store test.
-use mathlib.Core.Bool.{Bool, true, false, cond, _&&_}
+use mathlib.Core.Bool.{Bool, true, false, cond}
 use mathlib.Core.List.{List, [], _∷_, map}
 use mathlib.Core.Logic.{_≢_}
 use mathlib.Core.Path.{_≡_, refl, sym, ap, _∙_, subst}
 use Prim.Native.Nat.{ℕ, zero, suc, _+_, _-_, _/_, _≤_, _<_}
 use native.Mathlib.Numerals.{add-one}
 use native.Mathlib.Omega.{arith}
-use borrow.Author.Tests.{le-leb, leb-true, eq-eqb, ne-eqb}
+use borrow.Author.Tests.{leb-true, eq-eqb, ne-eqb}
 use lib.Dec.{leb, eqb}
 use lib.ListN.{length, getD}
-use Rattle.store.specs.Layout.{top, maxCap, isCap, room, span, layerLen, layerEnd, layerStart, storeLen, cap, isStore, StoreOf, endOf, capacityOf}
-use Rattle.store.proofs.Geometry.{store-is, empty-names-none, room-closed, after-header, end-top, end-step, within}
+use Rattle.util.proofs.Same.{both}
+use Rattle.store.specs.Layout.{top, maxCap, isCap, room, span, layerLen, layerEnd, layerStart, storeLen, cap, isStore, StoreOf, folded, endOf, capacityOf}
+use Rattle.store.proofs.Geometry.{store-is, room-closed, after-header, end-top, end-step, within}
 
 -- "The length is exactly 2+L2+L1+L0: 5 at N=1 and 64, 6 at 65, 68 at 4,096, 70 at 4,097, 266,306 at 16,777,216."
 lengths : map storeLen (1 ∷ 64 ∷ 65 ∷ 4096 ∷ 4097 ∷ 16777216 ∷ []) ≡ 5 ∷ 5 ∷ 6 ∷ 68 ∷ 70 ∷ 266306 ∷ []
@@ -20,17 +21,8 @@ lengths = refl
 -- ---- the ends
 
 pub end-is : (N k : ℕ) → 1 ≤ N → N ≤ maxCap → endOf N k ≡ layerEnd N k
-unfolding endOf isCap
-end-is N k some most = rw (le-leb 1 N some, le-leb N maxCap most)
-
-pub end-none : (N k : ℕ) → (1 ≤ N → N ≤ maxCap → ⊥) → endOf N k ≡ 0
-unfolding endOf isCap
-end-none N k h = go (leb 1 N) (leb N maxCap) refl refl
-  where
-    go : (a b : Bool) → leb 1 N ≡ a → leb N maxCap ≡ b → cond (a && b) (layerEnd N k) 0 ≡ 0
-    go true true p q = absurd (h (leb-true 1 N p) (leb-true N maxCap q))
-    go true false p q = refl
-    go false b p q = refl
+unfolding endOf
+end-is N k some most = let e : folded N ≡ N = omega arith in ap (λ (n : ℕ). layerEnd n k) e
 
 -- as the code computes them
 module _ (N : ℕ) (some : 1 ≤ N) (most : N ≤ maxCap) where
@@ -54,27 +46,32 @@ module _ (N : ℕ) (some : 1 ≤ N) (most : N ≤ maxCap) where
   unfolding top
   end0 = omega (arith, end-step N 0 (omega arith), end1, room-closed N 1)
 
+-- the same where the code has folded the number
+module _ (n m k : ℕ) (m-is : m ≡ folded n) where
+  pub end-at : (e j : ℕ) → (1 ≤ m → m ≤ maxCap → layerEnd m j ≡ e) → k ≡ j → e ≡ endOf n k
+  unfolding endOf
+  end-at e j is at =
+      sym (is (omega (arith, m-is)) (omega (arith, m-is))) ∙ ap (layerEnd m) (sym at) ∙ ap (λ (x : ℕ). layerEnd x k) m-is
+
 -- ---- the store test
 
-pub capacity-long : (s : List ℕ) → length s ≡ endOf (cap s) 0 → cap s ≡ capacityOf s
-unfolding endOf capacityOf isStore
-capacity-long s h = go (isCap (cap s)) refl
-  where
-    go : (b : Bool) → isCap (cap s) ≡ b → cap s ≡ cond (b && eqb (length s) (storeLen (cap s))) (cap s) 0
-    go true e =
-        let l : length s ≡ storeLen (cap s) = h ∙ ap (λ (b : Bool). cond b (storeLen (cap s)) 0) e in
-        ap (λ (b : Bool). cond b (cap s) 0) (sym (eq-eqb (length s) (storeLen (cap s)) l))
-    go false e = empty-names-none s (h ∙ ap (λ (b : Bool). cond b (storeLen (cap s)) 0) e)
+pub end-cap : (N k : ℕ) → isCap N ≡ true → endOf N k ≡ layerEnd N k
+unfolding isCap
+end-cap N k h = let b = both (leb 1 N) (leb N maxCap) h in end-is N k (leb-true 1 N (b .0)) (leb-true N maxCap (b .1))
 
-pub capacity-short : (s : List ℕ) → length s ≢ endOf (cap s) 0 → 0 ≡ capacityOf s
-unfolding endOf capacityOf isStore
-capacity-short s h = go (isCap (cap s)) refl
-  where
-    go : (b : Bool) → isCap (cap s) ≡ b → 0 ≡ cond (b && eqb (length s) (storeLen (cap s))) (cap s) 0
-    go true e =
-        let l : length s ≢ storeLen (cap s) = λ q. h (q ∙ sym (ap (λ (b : Bool). cond b (storeLen (cap s)) 0) e)) in
-        ap (λ (b : Bool). cond b (cap s) 0) (sym (ne-eqb (length s) (storeLen (cap s)) l))
-    go false e = refl
+module _ (s : List ℕ) where
+  pub capacity-none : isCap (cap s) ≡ false → 0 ≡ capacityOf s
+  unfolding capacityOf isStore
+  capacity-none h = sym (rw h)
+
+  module _ (h : isCap (cap s) ≡ true) where
+    pub capacity-long : length s ≡ endOf (cap s) 0 → cap s ≡ capacityOf s
+    unfolding capacityOf isStore
+    capacity-long l = sym (rw (h, eq-eqb (length s) (storeLen (cap s)) (l ∙ end-cap (cap s) 0 h)))
+
+    pub capacity-short : length s ≢ endOf (cap s) 0 → 0 ≡ capacityOf s
+    unfolding capacityOf isStore
+    capacity-short l = sym (rw (h, ne-eqb (length s) (storeLen (cap s)) (λ q. l (q ∙ sym (end-cap (cap s) 0 h)))))
 
 -- its answer is a capacity exactly for a store
 pub some-store : {n : ℕ} (s : List ℕ) → n ≡ capacityOf s → n ≢ 0 → StoreOf n s

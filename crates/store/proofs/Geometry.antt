@@ -31,9 +31,6 @@ store-is {s} e =
 pub store-kept : {N : ℕ} {s t : List ℕ} → StoreOf N s → length t ≡ length s → cap t ≡ cap s → StoreOf N t
 store-kept z long names = record { some = z .some; most = z .most; names = names ∙ z .names; long = long ∙ z .long }
 
-pub empty-names-none : (s : List ℕ) → length s ≡ 0 → cap s ≡ 0
-empty-names-none s h = List·getD-eq-default s 0 (omega arith)
-
 -- ---- how many words a layer has
 
 -- a power of 64 as one division, for every layer

@@ -3,7 +3,7 @@
 use mathlib.Core.Bool.{Bool, cond, _&&_}
 use mathlib.Core.List.{List}
 use mathlib.Core.Path.{_≡_}
-use Prim.Native.Nat.{ℕ, zero, suc, _+_, _-_, _/_, _≤_}
+use Prim.Native.Nat.{ℕ, zero, suc, _+_, _-_, _/_, _≤_, _%_}
 use lib.Dec.{leb, eqb}
 use lib.ListN.{length, getD}
 
@@ -70,9 +70,13 @@ pub record StoreOf (N : ℕ) (s : List ℕ) : Type 0 where
 
 -- ---- what the shared functions answer
 
--- where layer k ends in a store of capacity N; 0 where N is no capacity
+-- the capacity that differs from N by a multiple of 16,777,216: N itself where it is one
+abbrev pub folded : ℕ → ℕ
+folded N = (N + 16777215) % 16777216 + 1
+
+-- where layer k ends in a store of capacity N
 unfoldable pub endOf : ℕ → ℕ → ℕ
-endOf N k = cond (isCap N) (layerEnd N k) 0
+endOf N k = layerEnd (folded N) k
 
 -- the capacity of a store; 0 where the slice is none
 unfoldable pub capacityOf : List ℕ → ℕ

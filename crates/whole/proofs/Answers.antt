@@ -16,7 +16,7 @@ use Rattle.store.specs.Layout.{header, top, maxCap, isCap, room, layerEnd, stor
 use Rattle.store.specs.Word.{word}
 use Rattle.store.specs.declared.Asked.the-variants.{Is, Refused as AskedRefused}
 use Rattle.store.specs.declared.Did.the-variants.{Done, Refused as DidRefused}
-use Rattle.store.proofs.Ends.{end-is, end-above}
+use Rattle.store.proofs.Ends.{end-is, end-cap, end-above}
 use Rattle.store.proofs.Geometry.{is-store, after-header, end-top, room-falls}
 use Rattle.store.proofs.Words.{word-in}
 use Rattle.whole.specs.Calls.{openOf, clearOf, isEmptyOf, equalOf}
@@ -30,38 +30,20 @@ empty-is N n h =
 -- ---- open
 
 module _ (s : List ℕ) (N : ℕ) where
-  -- the end that a number names is 0 exactly where it is no capacity
-  cap-of-end : (b : Bool) → isCap N ≡ b → endOf N 0 ≡ cond b (storeLen N) 0
-  unfolding endOf
-  cap-of-end b e = ap (λ (x : Bool). cond x (storeLen N) 0) e
-
-  pub open-1 : endOf N 0 ≡ 0 → Settled didPaper (openOf s N) (DidRefused 1) s
+  pub open-1 : isCap N ≡ false → Settled didPaper (openOf s N) (DidRefused 1) s
   unfolding openOf
-  open-1 h = go (isCap N) refl
-    where
-      go : (b : Bool) → isCap N ≡ b → Settled didPaper (cond (isCap N) (cond (eqb (length s) (storeLen N)) (does (empty N)) (refuses 2 s)) (refuses 1 s)) (DidRefused 1) s
-      go true e = absurd (omega (arith, after-header N 0, sym h ∙ cap-of-end true e))
-      go false e = settled (rw e)
+  open-1 h = settled (rw h)
 
-  is-cap : endOf N 0 ≢ 0 → isCap N ≡ true
-  is-cap h = go (isCap N) refl
-    where
-      go : (b : Bool) → isCap N ≡ b → isCap N ≡ true
-      go true e = e
-      go false e = absurd (h (cap-of-end false e))
+  module _ (h : isCap N ≡ true) where
+    pub open-2 : length s ≢ endOf N 0 → Settled didPaper (openOf s N) (DidRefused 2) s
+    unfolding openOf
+    open-2 n = settled (rw (h, ne-eqb (length s) (storeLen N) (λ q. n (q ∙ sym (end-cap N 0 h)))))
 
-  pub open-2 : endOf N 0 ≢ 0 → length s ≢ endOf N 0 → Settled didPaper (openOf s N) (DidRefused 2) s
-  unfolding openOf
-  open-2 h n =
-      let c = is-cap h in
-      settled (rw (c, ne-eqb (length s) (storeLen N) (λ q. n (q ∙ sym (cap-of-end true c)))))
-
-  pub open-done : (t : List ℕ) → endOf N 0 ≢ 0 → length s ≡ endOf N 0 → t ≡ set (replicate (length s) 0) 0 N → Settled didPaper (openOf s N) Done t
-  unfolding openOf
-  open-done t h l e =
-      let c = is-cap h in
-      let long : length s ≡ storeLen N = l ∙ cap-of-end true c in
-      settled (rw (c, eq-eqb (length s) (storeLen N) long) (ap does (sym (e ∙ empty-is N (length s) long))))
+    pub open-done : (t : List ℕ) → length s ≡ endOf N 0 → t ≡ set (replicate (length s) 0) 0 N → Settled didPaper (openOf s N) Done t
+    unfolding openOf
+    open-done t l e =
+        let long : length s ≡ storeLen N = l ∙ end-cap N 0 h in
+        settled (rw (h, eq-eqb (length s) (storeLen N) long) (ap does (sym (e ∙ empty-is N (length s) long))))
 
 -- ---- the others
 

@@ -31,15 +31,15 @@ fn empty(store: &mut [u64], n: u64)
 pub fn open(store: &mut [u64], n: u32) -> Did
     ensures { λ r. ⌜ Settled didPaper (openOf (now (store .entry)) n) r (now (store .exit)) ⌝ }
 {
-    let e = store::end(n as usize, 0);
-    if e == 0 {
-        return Did::Refused(1);
-    }
-    if store.len() != e {
+    let cap = n as usize;
+    if store::is_capacity(cap) {
+        if store.len() == store::end(cap, 0) {
+            empty(store, n as u64);
+            return Did::Done;
+        }
         return Did::Refused(2);
     }
-    empty(store, n as u64);
-    Did::Done
+    Did::Refused(1)
 }
 
 // Removes every member.

@@ -1,11 +1,10 @@
 -- `bitset::add_in` meets its contract: no layer, layer 0, or all of them are written. Assumes nothing.
+use mathlib.Core.Bool.{true}
 use mathlib.Core.Path.{_≡_, sym, _∙_}
-use Prim.Native.Nat.{_≤_}
-use native.Mathlib.Omega.{arith}
 use borrow.Author.Needs.{needs}
-use Rattle.store.specs.Layout.{top}
 use Rattle.bitset.specs.Edit.{holds}
 use Rattle.bitset.proofs.Answers.{has-is, kept-held, set-all, set-one}
+use Rattle.bitset.proofs.Steps.{one-more, none-yet}
 use Rattle.bitset.proofs.add_in.Statement.{statement}
 use Rattle.bitset.proofs.add_in.Tie as tie
 
@@ -28,22 +27,20 @@ returns : tie.Need-returns
 returns c = kept-held (sym (held (c .before)) ∙ c .if1 .taken)
 
 mark-requires : tie.Need-mark-requires
-unfolding top
-mark-requires c κs = (c .before .before .before .before .before .before .before .pre, omega arith)
+mark-requires c κs = c .before .before .before .before .before .before .before .pre
 
 same-length-2 : tie.Need-same-length-2
 same-length-2 c = search needs
 
 returns-2 : tie.Need-returns-2
-unfolding top
 returns-2 c =
     let m = c .before .before in
     let t = m .before .before in
     let n = t .before in
     set-all (sym (held (n .before)) ∙ n .if1 .left) (sym (n .before .before .word0 .ensures) ∙ t .if2 .taken) (m .mark .ensures)
 
-mark-requires-2 : tie.Need-mark-requires-2
-mark-requires-2 c κs = (c .before .before .before .before .before .before .before .pre, omega arith)
+edit-requires : tie.Need-edit-requires
+edit-requires c κs = c .before .before .before .before .before .before .before .pre
 
 same-length-3 : tie.Need-same-length-3
 same-length-3 c = search needs
@@ -53,7 +50,8 @@ returns-3 c =
     let m = c .before .before in
     let t = m .before .before in
     let n = t .before in
-    set-one (sym (held (n .before)) ∙ n .if1 .left) (λ e. t .if2 .left (n .before .before .word0 .ensures ∙ e)) (m .mark2 .ensures)
+    let p = n .before .before .before .before .before .pre in
+    set-one (sym (held (n .before)) ∙ n .if1 .left) (λ e. t .if2 .left (n .before .before .word0 .ensures ∙ e)) (one-more true p 0 _ _ _ (none-yet true p) (m .edit .ensures))
 
 pub add-in-spec : {M : Type 1} → statement M
 add-in-spec =
@@ -66,6 +64,6 @@ add-in-spec =
     mark-requires
     same-length-2
     returns-2
-    mark-requires-2
+    edit-requires
     same-length-3
     returns-3)

@@ -1,58 +1,62 @@
--- `bitset::mark` meets its contract: after k turns the k lowest layers are written. Assumes nothing.
-use mathlib.Core.Path.{_≡_, refl, sym, ap, _∙_}
-use Prim.Native.Nat.{ℕ, _≤_, _-_}
-use native.Mathlib.Numerals.{add-one}
+-- `bitset::mark` meets its contract: each edit makes the layers written one more. Assumes nothing.
+use mathlib.Core.Bool.{true}
+use mathlib.Core.Path.{_≡_}
 use native.Mathlib.Omega.{arith}
 use borrow.Author.Needs.{needs}
-use lib.ListN.{length}
-use Rattle.bitset.specs.Edit.{edits}
-use Rattle.bitset.proofs.Edits.{length-edits}
-use Rattle.bitset.proofs.Steps.{placed, one-more}
+use Rattle.store.specs.Layout.{top}
+use Rattle.bitset.specs.Edit.{edits, Placed}
+use Rattle.bitset.proofs.Steps.{placed, one-more, none-yet}
 use Rattle.bitset.proofs.mark.Statement.{statement}
 use Rattle.bitset.proofs.mark.Tie as tie
-use mathlib.Core.Bool.{true}
 
-abbrev Inv-loop : tie.InvT-loop
-Inv-loop store₀ n id m k₀ store k = (k ≤ m) × (store ≡ edits true n store₀ id k) × (length store ≡ length store₀)
+edit-requires : tie.Need-edit-requires
+edit-requires c κs = search needs
 
-abbrev μ-loop : tie.MeasureT-loop
-μ-loop store₀ n id m k₀ store k = m - k
+-- after each edit
+one : (c : tie.After-edit) → let a = c .before .before .before .args in c .edit .last .0 ≡ edits true (a .n) (a .store .now) (a .id) 1
+one c = one-more true (c .before .before .before .pre) 0 _ _ _ (none-yet true (c .before .before .before .pre)) (c .edit .ensures)
 
-loop-holds : tie.Need-loop-holds Inv-loop μ-loop
-unfolding edits
-loop-holds c = (omega arith, refl, refl)
+edit-requires-2 : tie.Need-edit-requires-2
+unfolding top
+edit-requires-2 c κs =
+    let e = c .before .before .before in
+    placed true (e .before .before .before .pre) 1 _ (omega arith) (one e)
 
-edit-requires : tie.Need-edit-requires Inv-loop μ-loop
-edit-requires c κs =
-    let l = c .before .before in
-    let s = l .before .before in
-    placed true (s .pre .0) (l .loop .k) _ (omega (arith, s .pre .1)) (l .loop .inv .1)
+two : (c : tie.After-edit2) →
+    let a = c .before .before .before .before .before .before .before .args in
+    c .edit2 .last .0 ≡ edits true (a .n) (a .store .now) (a .id) 2
+two c = let e = c .before .before .before .before in one-more true (e .before .before .before .pre) 1 _ _ _ (one e) (c .edit2 .ensures)
 
-add-k : tie.Need-add-k Inv-loop μ-loop
-add-k c = omega arith
+edit-requires-3 : tie.Need-edit-requires-3
+unfolding top
+edit-requires-3 c κs =
+    let e = c .before .before .before in
+    placed true (e .before .before .before .before .before .before .before .pre) 2 _ (omega arith) (two e)
 
-loop-less : tie.Need-loop-less Inv-loop μ-loop
-loop-less c = omega arith
+three : (c : tie.After-edit3) →
+    let a = c .before .before .before .before .before .before .before .before .before .before .before .args in
+    c .edit3 .last .0 ≡ edits true (a .n) (a .store .now) (a .id) 3
+three c =
+    let e = c .before .before .before .before in
+    one-more true (e .before .before .before .before .before .before .before .pre) 2 _ _ _ (two e) (c .edit3 .ensures)
 
-loop-again : tie.Need-loop-again Inv-loop μ-loop
-loop-again c =
-    let e = c .before .before in
-    let l = e .before .before .before in
-    let s = l .before .before in
-    let q = one-more true (s .pre .0) (l .loop .k) _ _ _ (l .loop .inv .1) (e .edit .ensures)
-    ∙ ap (edits true (s .args .n) (s .args .store .now) (s .args .id)) (sym (add-one (l .loop .k))) in
-    (omega arith, q, ap length q ∙ length-edits true (s .args .n) (s .args .store .now) (s .args .id) _)
+edit-requires-4 : tie.Need-edit-requires-4
+unfolding top
+edit-requires-4 c κs =
+    let e = c .before .before .before in
+    placed true (e .before .before .before .before .before .before .before .before .before .before .before .pre) 3 _ (omega arith) (three e)
 
-same-length : tie.Need-same-length Inv-loop μ-loop
+same-length : tie.Need-same-length
 same-length c = search needs
 
-returns : tie.Need-returns Inv-loop μ-loop
+returns : tie.Need-returns
+unfolding top
 returns c =
-    let l = c .before in
-    let s = l .before .before in
-    l .loop .inv .1 ∙ ap (edits true (s .args .n) (s .args .store .now) (s .args .id)) (omega arith)
+    let l = c .before .before in
+    let e = l .before .before .before .before in
+    one-more true (e .before .before .before .before .before .before .before .before .before .before .before .pre) 3 _ _ _ (three e) (l .edit4 .ensures)
 
 pub mark-spec : {M : Type 1} → statement M
 mark-spec =
     tie.close
-    (tie.spec Inv-loop μ-loop loop-holds edit-requires add-k loop-less loop-again same-length returns)
+    (tie.spec edit-requires edit-requires-2 edit-requires-3 edit-requires-4 same-length returns)
