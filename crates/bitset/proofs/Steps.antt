@@ -1,10 +1,11 @@
 -- Where the code of a private step finds the word over an id, and that what it writes is the definition's edit.
 use mathlib.Core.Bool.{Bool, true, false, cond}
 use mathlib.Core.List.{List}
-use mathlib.Core.Logic.{_≢_}
+use mathlib.Core.Logic.{_≢_, ⊎-elim}
 use mathlib.Core.Path.{_≡_, refl, sym, ap, ap₂, _∙_, subst}
 use Prim.Native.Nat.{ℕ, zero, suc, _+_, _-_, _*_, _/_, _%_, _^_, _≤_, _<_}
 use native.Mathlib.Numerals.{add-one}
+use native.Mathlib.Nat.{eq-or-lt-of-le, le-of-suc-le-suc}
 use native.Mathlib.Omega.{arith}
 use lib.ListN.{length, getD, set}
 use Rattle.util.specs.Word.{change}
@@ -112,13 +113,40 @@ climb-past N s i (suc k) d h =
     let e : suc k + d ≡ k + suc d = omega arith in
     ap (climb N s i 0) e ∙ climb-past N s i k (suc d) (λ j l. h j (omega arith)) ∙ climb-on N s i k d (h k (omega arith))
 
--- it ends at layer k, which keeps one, or above the top
-pub climb-ends : (N : ℕ) (s : List ℕ) (i k : ℕ) → k ≤ top N → ((j : ℕ) → j < k → left N s i j ≡ 0) → left N s i k ≢ 0 → climb N s i 0 (top N) ≡ suc k
-climb-ends N s i k h zeros n =
-    let e : top N ≡ k + (top N - k) = omega arith in
-    ap (climb N s i 0) e ∙ climb-past N s i k (top N - k) zeros ∙ climb-stop N s i k (top N - k) n
+-- the k lowest layers are cleared, and none of their words keeps a bit
+pub record Climbing (s : List ℕ) (N i k : ℕ) (t : List ℕ) : Type 0 where
+  pub memory : t ≡ edits false N s i k
+  pub zeros : (j : ℕ) → j < k → left N s i j ≡ 0
 
-pub climb-all : (N : ℕ) (s : List ℕ) (i : ℕ) → ((j : ℕ) → j < suc (top N) → left N s i j ≡ 0) → climb N s i 0 (top N) ≡ suc (top N)
-climb-all N s i zeros =
-    let e : top N ≡ top N + 0 = omega arith in
-    ap (climb N s i 0) e ∙ climb-past N s i (top N) 0 (λ j l. zeros j (omega arith)) ∙ climb-top N s i (top N)
+module _ {s : List ℕ} {N i : ℕ} (p : Placed s N i 0) where
+  pub climb-none : Climbing s N i 0 s
+  climb-none = record { memory = none-yet false p; zeros = λ j l. absurd (omega arith) }
+
+  module _ (k : ℕ) {t : List ℕ} (h : k ≤ top N) (g : Climbing s N i k t) where
+    pub climb-placed : Placed t N i k
+    climb-placed = placed false p k t h (g .memory)
+
+    module _ {u : List ℕ} {r : ℕ} (d : Edited false t N i k u r) where
+      word-left : r ≡ left N s i k
+      unfolding left
+      word-left = leaves false p k t u r h (g .memory) d
+
+      -- the word keeps no bit, so the next layer is cleared
+      pub climb-more : r ≡ 0 → Climbing s N i (suc k) u
+      climb-more z = record { memory = one-more false p k t u r (g .memory) d; zeros = below }
+        where
+          below : (j : ℕ) → j < suc k → left N s i j ≡ 0
+          below j l = ⊎-elim (λ (e : j ≡ k). ap (left N s i) e ∙ sym word-left ∙ z) (λ (e : j < k). g .zeros j e) (eq-or-lt-of-le (le-of-suc-le-suc l))
+
+      -- it keeps one, or there is no next layer
+      pub climb-ends : r ≢ 0 → u ≡ edits false N s i (climb N s i 0 (top N))
+      climb-ends n =
+          let e : top N ≡ k + (top N - k) = omega arith in
+          let c = ap (climb N s i 0) e ∙ climb-past N s i k (top N - k) (g .zeros) ∙ climb-stop N s i k (top N - k) (λ z. n (word-left ∙ z)) in
+          one-more false p k t u r (g .memory) d ∙ ap (edits false N s i) (sym c)
+
+      pub climb-all : k ≡ top N → u ≡ edits false N s i (climb N s i 0 (top N))
+      climb-all at =
+          let e : top N ≡ k + 0 = omega arith in
+          let c = ap (climb N s i 0) e ∙ climb-past N s i k 0 (g .zeros) ∙ climb-top N s i k in
+          one-more false p k t u r (g .memory) d ∙ ap (edits false N s i) (sym c)

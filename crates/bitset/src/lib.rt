@@ -80,13 +80,16 @@ fn unmark(store: &mut [u64], n: usize, id: u32)
     requires { ⌜ Placed (now store) n id 0 ⌝ }
     ensures { λ r. ⌜ now (store .exit) ≡ edits false n (now (store .entry)) id (climb n (now (store .entry)) id 0 (top n)) ⌝ }
 {
-    let mut k = 0usize;
-    while k < 4 {
-        if edit(store, n, id, k, false) != 0 {
-            return;
-        }
-        k += 1;
+    if edit(store, n, id, 0, false) != 0 {
+        return;
     }
+    if edit(store, n, id, 1, false) != 0 {
+        return;
+    }
+    if edit(store, n, id, 2, false) != 0 {
+        return;
+    }
+    edit(store, n, id, 3, false);
 }
 
 // The crate's `add` and `add_slow`: layer 0 or, where its word was 0, every layer is written; answers whether the id was held.
@@ -98,11 +101,11 @@ fn add_in(store: &mut [u64], n: usize, id: u32) -> bool
     if util::is_set(old, id as usize) {
         return true;
     }
-    if old == 0 {
-        mark(store, n, id);
+    if old != 0 {
+        edit(store, n, id, 0, true);
         return false;
     }
-    edit(store, n, id, 0, true);
+    mark(store, n, id);
     false
 }
 

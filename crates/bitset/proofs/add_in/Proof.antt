@@ -26,8 +26,8 @@ same-length c = search needs
 returns : tie.Need-returns
 returns c = kept-held (sym (held (c .before)) ∙ c .if1 .taken)
 
-mark-requires : tie.Need-mark-requires
-mark-requires c κs = c .before .before .before .before .before .before .before .pre
+edit-requires : tie.Need-edit-requires
+edit-requires c κs = c .before .before .before .before .before .before .before .pre
 
 same-length-2 : tie.Need-same-length-2
 same-length-2 c = search needs
@@ -37,10 +37,12 @@ returns-2 c =
     let m = c .before .before in
     let t = m .before .before in
     let n = t .before in
-    set-all (sym (held (n .before)) ∙ n .if1 .left) (sym (n .before .before .word0 .ensures) ∙ t .if2 .taken) (m .mark .ensures)
+    let p = n .before .before .before .before .before .pre in
+    set-one (sym (held (n .before)) ∙ n .if1 .left) (λ e. t .if2 .taken (n .before .before .word0 .ensures ∙ e))
+    (one-more true p 0 _ _ _ (none-yet true p) (m .edit .ensures))
 
-edit-requires : tie.Need-edit-requires
-edit-requires c κs = c .before .before .before .before .before .before .before .pre
+mark-requires : tie.Need-mark-requires
+mark-requires c κs = c .before .before .before .before .before .before .before .pre
 
 same-length-3 : tie.Need-same-length-3
 same-length-3 c = search needs
@@ -50,8 +52,7 @@ returns-3 c =
     let m = c .before .before in
     let t = m .before .before in
     let n = t .before in
-    let p = n .before .before .before .before .before .pre in
-    set-one (sym (held (n .before)) ∙ n .if1 .left) (λ e. t .if2 .left (n .before .before .word0 .ensures ∙ e)) (one-more true p 0 _ _ _ (none-yet true p) (m .edit .ensures))
+    set-all (sym (held (n .before)) ∙ n .if1 .left) (sym (n .before .before .word0 .ensures) ∙ t .if2 .left) (m .mark .ensures)
 
 pub add-in-spec : {M : Type 1} → statement M
 add-in-spec =
@@ -61,9 +62,9 @@ add-in-spec =
     is-set-requires
     same-length
     returns
-    mark-requires
+    edit-requires
     same-length-2
     returns-2
-    edit-requires
+    mark-requires
     same-length-3
     returns-3)

@@ -1,108 +1,121 @@
--- `bitset::unmark` meets its contract: after k turns the k lowest layers are written and none of their words keeps a bit. Assumes nothing.
-use mathlib.Core.Bool.{false}
-use mathlib.Core.Path.{_≡_, refl, sym, ap, _∙_}
-use Prim.Native.Nat.{ℕ, suc, _≤_, _<_, _-_}
-use native.Mathlib.Numerals.{add-one}
+-- `bitset::unmark` meets its contract: it climbs while words become 0. Assumes nothing.
+use mathlib.Core.Path.{_≡_, refl}
 use native.Mathlib.Omega.{arith}
-use borrow.Author.Count.{below-more}
 use borrow.Author.Needs.{needs}
-use lib.ListN.{length}
 use Rattle.store.specs.Layout.{top}
-use Rattle.bitset.specs.Edit.{edits, left, climb}
-use Rattle.bitset.proofs.Edits.{length-edits}
-use Rattle.bitset.proofs.Steps.{placed, one-more, leaves, climb-ends, climb-all}
+use Rattle.bitset.proofs.Steps.{Climbing, climb-none, climb-placed, climb-more, climb-ends, climb-all}
 use Rattle.bitset.proofs.unmark.Statement.{statement}
 use Rattle.bitset.proofs.unmark.Tie as tie
 
-abbrev Inv-loop : tie.InvT-loop
-Inv-loop store₀ n id k₀ store k =
-    (k ≤ 4) × (store ≡ edits false n store₀ id k) × (length store ≡ length store₀) × ((j : ℕ) → j < k → left n store₀ id j ≡ 0)
+edit-requires : tie.Need-edit-requires
+edit-requires c κs = search needs
 
-abbrev μ-loop : tie.MeasureT-loop
-μ-loop store₀ n id k₀ store k = 4 - k
-
-loop-holds : tie.Need-loop-holds Inv-loop μ-loop
-unfolding edits
-loop-holds c = (omega arith, refl, refl, λ j l. absurd (omega arith))
-
-edit-requires : tie.Need-edit-requires Inv-loop μ-loop
-unfolding top
-edit-requires c κs =
-    let l = c .before .before in
-    placed false (l .before .before .pre) (l .loop .k) _ (omega arith) (l .loop .inv .1)
-
--- one layer more is written, and the answer is what is left of its word
-more : (c : tie.After-edit Inv-loop μ-loop) →
-    let l = c .before .before .before in
-    let s = l .before .before in
-    c .edit .last .0 ≡ edits false (s .args .n) (s .args .store .now) (s .args .id) (suc (l .loop .k))
-more c = let l = c .before .before .before in one-more false (l .before .before .pre) (l .loop .k) _ _ _ (l .loop .inv .1) (c .edit .ensures)
-
-word-left : (c : tie.After-edit Inv-loop μ-loop) →
-    let l = c .before .before .before in
-    let s = l .before .before in
-    c .edit .result ≡ left (s .args .n) (s .args .store .now) (s .args .id) (l .loop .k)
-unfolding left top
-word-left c =
-    let l = c .before .before .before in
-    leaves false (l .before .before .pre) (l .loop .k) _ _ _ (omega arith) (l .loop .inv .1) (c .edit .ensures)
-
-same-length : tie.Need-same-length Inv-loop μ-loop
+same-length : tie.Need-same-length
 same-length c = search needs
 
-returns : tie.Need-returns Inv-loop μ-loop
+returns : tie.Need-returns
 unfolding top
 returns c =
     let e = c .before .before .before in
-    let l = e .before .before .before in
-    let s = l .before .before in
-    more e
-    ∙ ap (edits false (s .args .n) (s .args .store .now) (s .args .id))
-    (sym (climb-ends (s .args .n) (s .args .store .now) (s .args .id) (l .loop .k) (omega arith) (l .loop .inv .3) (λ z. c .if1 .taken (word-left e ∙ z))))
+    let s = e .before .before .before in
+    climb-ends (s .pre) 0 (omega arith) (climb-none (s .pre)) (e .edit .ensures) (c .if1 .taken)
 
-add-k : tie.Need-add-k Inv-loop μ-loop
-add-k c = omega arith
-
-loop-less : tie.Need-loop-less Inv-loop μ-loop
-loop-less c = omega arith
-
-loop-again : tie.Need-loop-again Inv-loop μ-loop
-loop-again c =
+-- layer 0 kept no bit
+one : (c : tie.Else1) →
     let e = c .before .before .before in
-    let l = e .before .before .before in
-    let s = l .before .before in
-    let q = more e ∙ ap (edits false (s .args .n) (s .args .store .now) (s .args .id)) (sym (add-one (l .loop .k))) in (
-      omega arith,
-      q,
-      ap length q ∙ length-edits false (s .args .n) (s .args .store .now) (s .args .id) _,
-      below-more _ _ (l .loop .inv .3) (sym (word-left e) ∙ c .if1 .left),
-    )
+    let s = e .before .before .before in
+    Climbing (s .args .store .now) (s .args .n) (s .args .id) 1 (e .edit .last .0)
+unfolding top
+one c =
+    let e = c .before .before .before in
+    let s = e .before .before .before in
+    climb-more (s .pre) 0 (omega arith) (climb-none (s .pre)) (e .edit .ensures) (c .if1 .left)
 
-same-length-2 : tie.Need-same-length-2 Inv-loop μ-loop
+edit-requires-2 : tie.Need-edit-requires-2
+unfolding top
+edit-requires-2 c κs = let o = c .before in climb-placed (o .before .before .before .before .before .before .pre) 1 (omega arith) (one o)
+
+same-length-2 : tie.Need-same-length-2
 same-length-2 c = search needs
 
-returns-2 : tie.Need-returns-2 Inv-loop μ-loop
+returns-2 : tie.Need-returns-2
 unfolding top
 returns-2 c =
-    let l = c .before in
-    let s = l .before .before in
-    let n : l .loop .k ≡ 4 = omega arith in
-    l .loop .inv .1
-    ∙ ap (edits false (s .args .n) (s .args .store .now) (s .args .id))
-    (n ∙ sym (climb-all (s .args .n) (s .args .store .now) (s .args .id) (λ j h. l .loop .inv .3 j (omega arith))))
+    let e = c .before .before .before in
+    let o = e .before .before in
+    climb-ends (o .before .before .before .before .before .before .pre) 1 (omega arith) (one o) (e .edit2 .ensures) (c .if2 .taken)
+
+-- nor layer 1
+two : (c : tie.Else2) →
+    let e = c .before .before .before in
+    let s = e .before .before .before .before .before .before .before .before in
+    Climbing (s .args .store .now) (s .args .n) (s .args .id) 2 (e .edit2 .last .0)
+unfolding top
+two c =
+    let e = c .before .before .before in
+    let o = e .before .before in
+    climb-more (o .before .before .before .before .before .before .pre) 1 (omega arith) (one o) (e .edit2 .ensures) (c .if2 .left)
+
+edit-requires-3 : tie.Need-edit-requires-3
+unfolding top
+edit-requires-3 c κs =
+    let o = c .before in
+    climb-placed (o .before .before .before .before .before .before .before .before .before .before .before .pre) 2 (omega arith) (two o)
+
+same-length-3 : tie.Need-same-length-3
+same-length-3 c = search needs
+
+returns-3 : tie.Need-returns-3
+unfolding top
+returns-3 c =
+    let e = c .before .before .before in
+    let o = e .before .before in
+    climb-ends (o .before .before .before .before .before .before .before .before .before .before .before .pre) 2 (omega arith) (two o)
+    (e .edit3 .ensures) (c .if3 .taken)
+
+-- nor layer 2
+three : (c : tie.Else3) →
+    let e = c .before .before .before in
+    let s = e .before .before .before .before .before .before .before .before .before .before .before .before .before in
+    Climbing (s .args .store .now) (s .args .n) (s .args .id) 3 (e .edit3 .last .0)
+unfolding top
+three c =
+    let e = c .before .before .before in
+    let o = e .before .before in
+    climb-more (o .before .before .before .before .before .before .before .before .before .before .before .pre) 2 (omega arith) (two o)
+    (e .edit3 .ensures) (c .if3 .left)
+
+edit-requires-4 : tie.Need-edit-requires-4
+unfolding top
+edit-requires-4 c κs =
+    let o = c .before in
+    let s = o .before .before .before .before .before .before .before .before .before .before .before .before .before .before .before .before in
+    climb-placed (s .pre) 3 (omega arith) (three o)
+
+same-length-4 : tie.Need-same-length-4
+same-length-4 c = search needs
+
+returns-4 : tie.Need-returns-4
+unfolding top
+returns-4 c =
+    let e = c .before .before in
+    let o = e .before .before in
+    let s = o .before .before .before .before .before .before .before .before .before .before .before .before .before .before .before .before in
+    climb-all (s .pre) 3 (omega arith) (three o) (e .edit4 .ensures) refl
 
 pub unmark-spec : {M : Type 1} → statement M
 unmark-spec =
     tie.close
     (tie.spec
-    Inv-loop
-    μ-loop
-    loop-holds
     edit-requires
     same-length
     returns
-    add-k
-    loop-less
-    loop-again
+    edit-requires-2
     same-length-2
-    returns-2)
+    returns-2
+    edit-requires-3
+    same-length-3
+    returns-3
+    edit-requires-4
+    same-length-4
+    returns-4)
