@@ -7,7 +7,7 @@ use Prim.Native.Nat.{ℕ, zero, suc, _+_, _-_, _*_, _/_, _%_, _^_, _≤_, _<_}
 use native.Mathlib.Numerals.{add-one}
 use native.Mathlib.Nat.{eq-or-lt-of-le, le-of-suc-le-suc}
 use native.Mathlib.Omega.{arith}
-use lib.ListN.{length, getD, set}
+use lib.ListN.{length, getD, set, take, drop, length-take, length-drop}
 use Rattle.util.specs.Word.{change}
 use Rattle.store.specs.Layout.{top, room, layerLen, layerStart, layerEnd, cap, endOf}
 use Rattle.store.specs.Word.{word, anc, put}
@@ -22,6 +22,10 @@ use Rattle.bitset.proofs.Moves.{climb-on, climb-stop, climb-top}
 pub layer-lt : {s : List ℕ} {N i k : ℕ} → Placed s N i k → k < 4
 unfolding top
 layer-lt p = omega (arith, p .layer)
+
+-- a word of a part
+pub in-part : (a e i : ℕ) (xs : List ℕ) → a + i < e → e ≤ length xs → i < length (take (e - a) (drop a xs))
+in-part a e i xs h l = omega (arith, length-take (e - a) (drop a xs), length-drop a xs)
 
 -- the word over id i in layer k: where it stands in the store and in the layer
 pub record Spot (s : List ℕ) (N i k : ℕ) : Type 0 where

@@ -5,6 +5,7 @@ use mathlib.Core.List.{List}
 use mathlib.Core.Path.{_≡_}
 use Prim.Native.Nat.{ℕ, zero, suc, _/_, _%_, _≤_, _<_}
 use lib.Dec.{eqb}
+use lib.ListN.{getD, set}
 use Rattle.util.specs.Word.{change}
 use Rattle.store.specs.Layout.{top, StoreOf}
 use Rattle.store.specs.Word.{word, on, anc, put}
@@ -52,6 +53,11 @@ pub record Placed (s : List ℕ) (N i k : ℕ) : Type 0 where
   pub store : StoreOf N s
   pub below : i < N
   pub layer : k ≤ top N
+
+-- bit b of word i of a layer is set, or cleared, and r is the word that it leaves
+pub record Written (on : Bool) (l : List ℕ) (i b : ℕ) (m : List ℕ) (r : ℕ) : Type 0 where
+  pub answer : r ≡ change on (getD l i 0) (b % 64)
+  pub memory : m ≡ set l i r
 
 pub record Edited (set : Bool) (s : List ℕ) (N i k : ℕ) (t : List ℕ) (r : ℕ) : Type 0 where
   pub memory : t ≡ edit set N s k (anc i k)

@@ -1,15 +1,16 @@
 // The set over one lent store: the Rust's lib.rs, `BitSet`. Every call tests the store itself and refuses by number.
 ghost use mathlib.Core.Bool.{Bool, true, false};
 ghost use mathlib.Core.Path.{_≡_};
-ghost use Prim.Native.Nat.{ℕ, suc, _/_, _≤_};
+ghost use Prim.Native.Nat.{ℕ, suc, _/_, _≤_, _<_};
 ghost use lib.Dec.{ltb};
+ghost use lib.ListN.{length};
 ghost use Rattle.util.specs.Outcome.{Settled};
 ghost use Rattle.store.specs.Answer.{askedPaper, didPaper};
 ghost use Rattle.store.specs.Layout.{top, StoreOf};
 ghost use Rattle.store.specs.Word.{word};
-ghost use Rattle.bitset.specs.Edit.{edits, addLayers, climb, removeLayers, layersOf, Placed, Edited, Moved};
-ghost use Rattle.bitset.specs.Place.{Located, stays};
-ghost use Rattle.bitset.specs.Calls.{containsOf, moveOf, addOf, removeOf, allBelow, addAll, addListOf};
+ghost use Rattle.bitset.specs.Edit.{edits, addLayers, climb, removeLayers, Placed, Written, Edited, Moved};
+ghost use Rattle.bitset.specs.Place.{Located};
+ghost use Rattle.bitset.specs.Calls.{containsOf, addOf, removeOf, allBelow, addAll, addListOf};
 use store::Asked;
 use store::Did;
 
@@ -50,6 +51,16 @@ fn word0(store: &[u64], n: usize, id: u32) -> u64
     store[store::end(n, 1) + util::offset(id, util::SHIFT1)]
 }
 
+// The word-writing leaf: a bit of word i of a layer, lent as a part of its store, set or cleared; answers the word that it leaves.
+fn set_bit(layer: &mut [u64], i: usize, b: usize, on: bool) -> u64
+    requires { ⌜ i < length (now layer) ⌝ }
+    ensures { λ r. ⌜ Written on (now (layer .entry)) i b (now (layer .exit)) r ⌝ }
+{
+    let w = util::with_bit(layer[i], b, on);
+    layer[i] = w;
+    w
+}
+
 // The bit over an id set, or cleared, in layer k; answers the word that it leaves.
 fn edit(store: &mut [u64], n: usize, id: u32, k: usize, on: bool) -> u64
     requires { ⌜ Placed (now store) n id k ⌝ }
@@ -59,9 +70,8 @@ fn edit(store: &mut [u64], n: usize, id: u32, k: usize, on: bool) -> u64
     let a = store::end(n, up);
     let e = store::end(n, k);
     let q = util::offset(id, 6 * up);
-    let w = util::with_bit(store[a + q], util::offset(id, 6 * k), on);
-    store::put(&mut store[a..e], q, w);
-    w
+    let b = util::offset(id, 6 * k);
+    set_bit(&mut store[a..e], q, b, on)
 }
 
 // The bit over an id set in every layer. A literal layer number lets the compiler fold the layer's place.
@@ -121,29 +131,6 @@ fn remove_in(store: &mut [u64], n: usize, id: u32) -> bool
     true
 }
 
-// An id added, or removed, in a store with room for it; answers whether it was held.
-fn move_in(store: &mut [u64], n: usize, id: u32, on: bool) -> bool
-    requires { ⌜ Placed (now store) n id 0 ⌝ }
-    ensures { λ r. ⌜ Moved on (now (store .entry)) n id (layersOf on n (now (store .entry)) id) (now (store .exit)) r ⌝ }
-{
-    if on {
-        add_in(store, n, id)
-    } else {
-        remove_in(store, n, id)
-    }
-}
-
-// An id added, or removed, where it has room; `past` is the answer past the end.
-fn change(store: &mut [u64], id: u32, on: bool, past: Asked) -> Asked
-    ensures { λ r. ⌜ Settled askedPaper (moveOf on (stays past (now (store .entry))) (now (store .entry)) id) r (now (store .exit)) ⌝ }
-{
-    match locate(store, id) {
-        Place::In(n) => Asked::Is(move_in(store, n, id, on)),
-        Place::Past => past,
-        Place::Nowhere => Asked::Refused(2),
-    }
-}
-
 // Whether the id is a member: below the capacity, with its layer-0 bit set.
 pub fn contains(store: &[u64], id: u32) -> Asked
     ensures { λ r. ⌜ Settled askedPaper (containsOf (now (store .entry)) id) r tt ⌝ }
@@ -159,14 +146,22 @@ pub fn contains(store: &[u64], id: u32) -> Asked
 pub fn add(store: &mut [u64], id: u32) -> Asked
     ensures { λ r. ⌜ Settled askedPaper (addOf (now (store .entry)) id) r (now (store .exit)) ⌝ }
 {
-    change(store, id, true, Asked::Refused(3))
+    match locate(store, id) {
+        Place::In(n) => Asked::Is(add_in(store, n, id)),
+        Place::Past => Asked::Refused(3),
+        Place::Nowhere => Asked::Refused(2),
+    }
 }
 
 // Removes an id; answers whether it was held.
 pub fn remove(store: &mut [u64], id: u32) -> Asked
     ensures { λ r. ⌜ Settled askedPaper (removeOf (now (store .entry)) id) r (now (store .exit)) ⌝ }
 {
-    change(store, id, false, Asked::Is(false))
+    match locate(store, id) {
+        Place::In(n) => Asked::Is(remove_in(store, n, id)),
+        Place::Past => Asked::Is(false),
+        Place::Nowhere => Asked::Refused(2),
+    }
 }
 
 // Whether every id of the list has room.

@@ -1,10 +1,12 @@
--- `bitset::change` meets its contract. Assumes nothing.
+-- `bitset::add` meets its contract. Assumes nothing.
+use mathlib.Core.Bool.{true}
 use borrow.Author.Needs.{needs}
+use Rattle.store.specs.declared.Asked.the-variants.{Refused}
 use Rattle.bitset.specs.Edit.{Placed}
 use Rattle.bitset.proofs.Answers.{change-2, change-past, change-is}
 use Rattle.bitset.proofs.Places.{placed, outside, nowhere}
-use Rattle.bitset.proofs.change.Statement.{statement}
-use Rattle.bitset.proofs.change.Tie as tie
+use Rattle.bitset.proofs.add.Statement.{statement}
+use Rattle.bitset.proofs.add.Tie as tie
 
 locate-requires : tie.Need-locate-requires
 locate-requires c κs = search needs
@@ -19,8 +21,8 @@ placed-here : (c : tie.After-n)
     Placed (a .store .now) (c .n .given .0 .0) (a .id) 0
 placed-here c = placed _ _ (c .before .before .locate .ensures) (c .n .given .1)
 
-move-in-requires : tie.Need-move-in-requires
-move-in-requires c κs = placed-here (c .before .before)
+add-in-requires : tie.Need-add-in-requires
+add-in-requires c κs = placed-here (c .before .before)
 
 enum-told : tie.Need-enum-told
 enum-told c = search needs
@@ -36,7 +38,7 @@ returns c =
     let m = c .before .before in
     let n = m .before .before .before in
     let a = n .before .before .before .before .before .args in
-    change-is (a .store .now) (a .id) (a .on) (a .past) _ (placed-here n) (m .move-in .result) (m .move-in .last .0) (m .move-in .ensures)
+    change-is (a .store .now) (a .id) true (Refused 3) _ (placed-here n) (m .add-in .result) (m .add-in .last .0) (m .add-in .ensures)
 
 same-length-2 : tie.Need-same-length-2
 same-length-2 c = search needs
@@ -45,7 +47,7 @@ returns-2 : tie.Need-returns-2
 returns-2 c =
     let l = c .before .before in
     let a = l .before .before .before .args in
-    change-past (a .store .now) (a .id) (a .on) (a .past) (outside _ _ (l .locate .ensures) (c .enum-told .given .1))
+    change-past (a .store .now) (a .id) true (Refused 3) (outside _ _ (l .locate .ensures) (c .enum-told .given .1))
 
 same-length-3 : tie.Need-same-length-3
 same-length-3 c = search needs
@@ -54,15 +56,15 @@ returns-3 : tie.Need-returns-3
 returns-3 c =
     let l = c .before .before in
     let a = l .before .before .before .args in
-    change-2 (a .store .now) (a .id) (a .on) (a .past) (nowhere _ _ (l .locate .ensures) (c .enum-told2 .given .1))
+    change-2 (a .store .now) (a .id) true (Refused 3) (nowhere _ _ (l .locate .ensures) (c .enum-told2 .given .1))
 
-pub change-spec : {M : Type 1} → statement M
-change-spec =
+pub add-spec : {M : Type 1} → statement M
+add-spec =
     tie.close
     (tie.spec
     locate-requires
     enum-known-n
-    move-in-requires
+    add-in-requires
     enum-told
     enum-told-2
     same-length
