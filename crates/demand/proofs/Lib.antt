@@ -1,0 +1,6 @@
+pub mod Ends
+pub mod Prefixes
+pub mod Members
+pub mod Gaps
+pub mod Fewer
+pub mod Store

@@ -1,0 +1,173 @@
+-- Walks of one store, by the public definitions: started, and then a call of next for each budget of a list.
+use mathlib.Core.Bool.{true}
+use mathlib.Core.List.{List, [], _∷_, _++_, List·Memᴰ, append-nil}
+use mathlib.Core.Logic.{_↔_, _≢_}
+use mathlib.Core.Path.{_≡_, refl, sym, ap, ap₂, _∙_, subst}
+use Prim.Native.Nat.{ℕ, _+_, _-_, _≤_}
+use native.Mathlib.Decide.{ℕ-discrete}
+use native.Mathlib.Omega.{arith}
+use lib.ListN.{length}
+use Rattle.util.specs.Word.{places, Rising}
+use Rattle.util.proofs.Places.{places-append, places-none}
+use Rattle.store.specs.Layout.{top, maxCap, room, cap, isStore}
+use Rattle.store.specs.Word.{word, on, Member, members, Sound, Words64}
+use Rattle.store.proofs.Geometry.{store-is}
+use Rattle.store.proofs.Members.{members-are, members-rise}
+use Rattle.store.proofs.Words.{word-lt, on-lt}
+use Rattle.iter.specs.declared.Cursor.{Cursor}
+use Rattle.iter.specs.declared.Next.{Next}
+use Rattle.iter.specs.declared.Next.the-variants.{Member as MemberOf, Paused, End, Refused}
+use Rattle.iter.specs.declared.Step.{Step}
+use Rattle.iter.specs.Calls.{Fine, startIn}
+use Rattle.iter.specs.Under.{allIds, allReads}
+use Rattle.iter.specs.Walk.{startAt, next, Run, onward, runBy, walk}
+use Rattle.iter.proofs.Answers.{start-is, next-runs}
+use Rattle.iter.proofs.Cursors.{Wf, fit-of, start-wf, start-fine}
+use Rattle.iter.proofs.Rest.{moved-next}
+use Rattle.demand.specs.Walks.{onAt, Clear, Full, Some, Kept, AllKept, spacedBy, Spaced, nextOn, walkOn}
+use Rattle.demand.proofs.Ends.{next-kept, walk-ends, walk-all}
+use Rattle.demand.proofs.Gaps.{spaced}
+use Rattle.demand.proofs.Members.{ids-are}
+use Rattle.demand.proofs.Prefixes.{next-fine}
+
+-- ---- what soundness says of the layer words
+
+module _ (N : ℕ) (s : List ℕ) (z : Sound N s) where
+  sound-clear : Clear (word N s) (top N)
+  unfolding onAt on
+  sound-clear k p h e = go (ℕ-discrete (word N s k p) 0)
+    where
+      go : Dec (word N s k p ≡ 0) → word N s k p ≡ 0
+      go (yes q) = q
+      go (no q) = absurd (omega (arith, e, z .exact k p h .1 q))
+
+  sound-full : Full (word N s) (top N)
+  unfolding onAt on
+  sound-full k p h e = let n : word N s k p ≢ 0 = z .exact k p h .0 e in omega (arith, n)
+
+  -- no bit is set at or past N
+  sound-ids : N ≤ maxCap → allIds (word N s) (top N) ≡ places (on N s 0) 0 N
+  unfolding onAt on room top
+  sound-ids most =
+      let e : 16777216 ≡ N + (16777216 - N) = omega arith in
+      ids-are (word N s) 3 sound-clear
+      ∙ ap (places (onAt (word N s) 0) 0) e
+      ∙ places-append (onAt (word N s) 0) 0 N (16777216 - N)
+      ∙ ap (λ (x : List ℕ). places (onAt (word N s) 0) 0 N ++ x)
+      (places-none (onAt (word N s) 0) (0 + N) (16777216 - N) (λ i l u. off i (omega arith)))
+      ∙ append-nil (places (onAt (word N s) 0) 0 N)
+    where
+      off : (i : ℕ) → N ≤ i → onAt (word N s) 0 i ≡ 0
+      off i h = go (ℕ-discrete (on N s 0 i) 1)
+        where
+          go : Dec (on N s 0 i ≡ 1) → on N s 0 i ≡ 0
+          go (yes q) = absurd (omega (arith, z .inside 0 i (omega arith) q))
+          go (no q) = omega (arith, on-lt N s 0 i, q)
+
+-- ---- the calls on a store are the walk over its layer words, and none refuses
+
+module _ (s : List ℕ) (is : isStore s ≡ true) (small : Words64 s) where
+  abbrev lw : ℕ → ℕ → ℕ
+  lw = word (cap s) s
+
+  abbrev t : ℕ
+  t = top (cap s)
+
+  call-is : (b : ℕ) (c : Cursor) → Fine t (c .prefix) → nextOn s b c ≡ next lw t b c
+  call-is b c f = sym (next-runs (store-is is) c b (fit-of t (c .prefix) f))
+
+  run-is : (bs : List ℕ) (c : Cursor) → Wf t c → Fine t (c .prefix) → runBy (nextOn s) c bs ≡ walk lw t c bs
+  unfolding runBy
+  run-is [] c wf f = refl
+  run-is (b ∷ bs) c wf f =
+      let a = next lw t b c in
+      ap (λ (x : Step). onward (x .answer) (x .reads) (runBy (nextOn s) (x .cursor) bs)) (call-is b c f)
+      ∙ ap (onward (a .answer) (a .reads)) (run-is bs (a .cursor) (moved-next lw (word-lt (cap s) s small) t b c wf .wf) (next-fine lw (word-lt (cap s) s small) t b c wf f))
+
+  kept-from : (bs : List ℕ) (c : Cursor) → Wf t c → Fine t (c .prefix) → AllKept (nextOn s) bs c
+  unfolding AllKept
+  kept-from [] c wf f = tt
+  kept-from (b ∷ bs) c wf f =
+      let m = moved-next lw (word-lt (cap s) s small) t b c wf in
+      subst (λ (x : Step). Kept b (x .answer) (x .reads) × AllKept (nextOn s) bs (x .cursor)) (sym (call-is b c f))
+      (next-kept lw t b c, kept-from bs (next lw t b c .cursor) (m .wf) (next-fine lw (word-lt (cap s) s small) t b c wf f))
+
+  start-cursor : (c : Cursor) → startIn s c .cursor ≡ startAt t (lw t 0)
+  start-cursor c = ap (λ (x : Step). x .cursor) (start-is (store-is is) c)
+
+  walk-is : (c : Cursor) (bs : List ℕ) → walkOn s c bs ≡ walk lw t (startAt t (lw t 0)) bs
+  walk-is c bs =
+      ap (λ (x : Cursor). runBy (nextOn s) x bs) (start-cursor c)
+      ∙ run-is bs (startAt t (lw t 0)) (start-wf t (lw t 0) (word-lt (cap s) s small t 0)) (start-fine t (lw t 0))
+
+  -- A STARTED WALK of a store, sound or not: no call of it refuses or reads past its budget, and a paused one has spent it
+  pub walk-kept : (c : Cursor) (bs : List ℕ) → AllKept (nextOn s) bs (startIn s c .cursor)
+  walk-kept c bs =
+      subst (AllKept (nextOn s) bs) (sym (start-cursor c))
+      (kept-from bs (startAt t (lw t 0)) (start-wf t (lw t 0) (word-lt (cap s) s small t 0)) (start-fine t (lw t 0)))
+
+  -- One that ends has handed out the ids below the top word and reported the definition's count; and enough calls end it.
+  pub walk-defined : (c : Cursor) (bs : List ℕ) → walkOn s c bs .over ≡ true
+      → (walkOn s c bs .members ≡ allIds lw t) × (startIn s c .reads + walkOn s c bs .total ≡ allReads lw t)
+  walk-defined c bs e =
+      let w = walk-is c bs in
+      let r = walk-all lw (word-lt (cap s) s small) t bs (sym (ap (λ (x : Run). x .over) w) ∙ e) in (
+        ap (λ (x : Run). x .members) w ∙ r .0,
+        ap₂ (λ (x : Step) (y : Run). x .reads + y .total) (start-is (store-is is) c) w ∙ r .1,
+      )
+
+  pub walk-over : (c : Cursor) (bs : List ℕ) → Some bs → allReads lw t + length (allIds lw t) ≤ length bs → walkOn s c bs .over ≡ true
+  walk-over c bs some h = ap (λ (x : Run). x .over) (walk-is c bs) ∙ walk-ends lw (word-lt (cap s) s small) t bs some h
+
+-- ---- on a sound store
+
+-- what a walk that ended did: exactly the members, each once, rising; and the reads, the start's among them, that the definition counts
+pub record Walked (s : List ℕ) (c : Cursor) (bs : List ℕ) : Type 0 where
+  pub members-all : walkOn s c bs .members ≡ members s
+  pub exact : (i : ℕ) → List·Memᴰ i (walkOn s c bs .members) ↔ Member s i
+  pub rising : Rising 0 (walkOn s c bs .members)
+  pub counted : startIn s c .reads + walkOn s c bs .total ≡ allReads (word (cap s) s) (top (cap s))
+
+module _ (s : List ℕ) (is : isStore s ≡ true) (small : Words64 s) (z : Sound (cap s) s) where
+  -- what the definition hands out is the members
+  pub ids-members : allIds (word (cap s) s) (top (cap s)) ≡ members s
+  unfolding members
+  ids-members = sound-ids (cap s) s z (store-is is .most)
+
+  -- A WALK of a sound store that ends, however it is cut by budgets
+  pub walked : (c : Cursor) (bs : List ℕ) → walkOn s c bs .over ≡ true → Walked s c bs
+  walked c bs e =
+      let d = walk-defined s is small c bs e in
+      let m : walkOn s c bs .members ≡ members s = d .0 ∙ ids-members in
+      record {
+        members-all = m;
+        exact = λ i. subst (λ (l : List ℕ). List·Memᴰ i l ↔ Member s i) (sym m) (members-are s i);
+        rising = subst (Rising 0) (sym m) (members-rise s);
+        counted = d .1;
+      }
+
+  spaced-from : (bs : List ℕ) (c : Cursor) (r : ℕ) → Wf (top (cap s)) c → Fine (top (cap s)) (c .prefix)
+      → Spaced (top (cap s)) (next (word (cap s) s) (top (cap s))) bs c r → Spaced (top (cap s)) (nextOn s) bs c r
+  unfolding Spaced
+  spaced-from [] c r wf f h = tt
+  spaced-from (b ∷ bs) c r wf f h =
+      subst (λ (x : Step). spacedBy (top (cap s)) (x .answer) (r + x .reads) (Spaced (top (cap s)) (nextOn s) bs (x .cursor))) (sym (call-is s is small b c f))
+      (go (a .answer) (r + a .reads) (λ n. spaced-from bs (a .cursor) n (moved-next (word (cap s) s) (word-lt (cap s) s small) (top (cap s)) b c wf .wf)
+      (next-fine (word (cap s) s) (word-lt (cap s) s small) (top (cap s)) b c wf f)) h)
+    where
+      a : Step
+      a = next (word (cap s) s) (top (cap s)) b c
+
+      go : (o : Next) (n : ℕ) → {P Q : ℕ → Type 0} → ((m : ℕ) → P m → Q m) → spacedBy (top (cap s)) o n P → spacedBy (top (cap s)) o n Q
+      go (MemberOf v) n f h = (h .0, f 0 (h .1))
+      go Paused n f h = (h .0, f n (h .1))
+      go End n f h = h
+      go (Refused m) n f h = h
+
+  -- THE GAPS: after the top word at most three words, the layers below the top, are read before each next member, and none before the end
+  pub walk-spaced : (c : Cursor) (bs : List ℕ) → Spaced (top (cap s)) (nextOn s) bs (startIn s c .cursor) 0
+  walk-spaced c bs =
+      let w = word (cap s) s (top (cap s)) 0 in
+      subst (λ (x : Cursor). Spaced (top (cap s)) (nextOn s) bs x 0) (sym (start-cursor s is small c))
+      (spaced-from bs (startAt (top (cap s)) w) 0 (start-wf (top (cap s)) w (word-lt (cap s) s small (top (cap s)) 0)) (start-fine (top (cap s)) w)
+      (spaced (word (cap s) s) (word-lt (cap s) s small) (top (cap s)) (sound-full (cap s) s z) bs))

@@ -1,0 +1,1 @@
+// No code: what walks do, over any layer words and on one store.

@@ -1,0 +1,5 @@
+pub mod Walk
+pub mod Under
+pub mod Calls
+pub mod Fill
+pub mod Steps
