@@ -261,7 +261,7 @@ impl Cursor {
         ensures { λ r. ⌜ Settled batchPaper (filled (fillFrom (word n (now (store .entry))) 3 (length (now (out .entry))) budget self) (now (out .entry))) r (now (out .exit)) ⌝ }
     {
         let mut c = self;
-        let mut reads = 0u64;
+        let mut spent = 0u64;
         let mut count = 0usize;
         while count < out.len() {
             let level = c.level();
@@ -275,25 +275,25 @@ impl Cursor {
             if level == 4 {
                 return Batch {
                     cursor: c,
-                    reads,
+                    reads: spent,
                     count,
                     stop: Stop::End,
                 };
             }
-            if reads == budget {
+            if spent == budget {
                 return Batch {
                     cursor: c,
-                    reads,
+                    reads: spent,
                     count,
                     stop: Stop::Paused,
                 };
             }
             c = c.down(store, n, level);
-            reads += 1;
+            spent += 1;
         }
         Batch {
             cursor: c,
-            reads,
+            reads: spent,
             count,
             stop: Stop::Full,
         }

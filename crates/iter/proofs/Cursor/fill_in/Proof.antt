@@ -88,8 +88,8 @@ down-requires c κs =
     let i = l .before in
     (i .before .before .before .before .pre .0, between e .0, bit-at (i .before .loop .inv .fine) (low-here l) (between e .1))
 
-add-reads : tie.Need-add-reads Inv-loop μ-loop
-add-reads c =
+add-spent : tie.Need-add-spent Inv-loop μ-loop
+add-spent c =
     let e = c .before in
     omega (arith, e .before .before .before .before .before .loop .inv .spent, e .if3 .left)
 
@@ -133,7 +133,7 @@ fill-in-spec =
     same-length-2
     returns-2
     down-requires
-    add-reads
+    add-spent
     loop-less-2
     loop-again-2
     same-length-3
