@@ -4,6 +4,7 @@ use mathlib.Core.List.{List, [], _∷_, _++_}
 use Prim.Native.Nat.{ℕ}
 use lib.Dec.{ltb}
 use lib.ListN.{take}
+use Rattle.util.specs.Outcome.{Outcome}
 use Rattle.text.specs.Out.{decimalOf}
 use Rattle.said.specs.declared.Said.{Said}
 
@@ -23,6 +24,17 @@ saidOf [] = record { count = 0; a = 0; b = 0; c = 0 }
 saidOf (a ∷ []) = oneOf a
 saidOf (a ∷ b ∷ []) = twoOf a b
 saidOf (a ∷ b ∷ c ∷ l) = record { count = 3; a = a; b = b; c = c }
+
+-- what a call says, and what it leaves of the words that were lent to it
+pub record Left : Type 0 where
+  pub said : Said
+  pub lent : List ℕ
+
+abbrev pub left : Said → List ℕ → Left
+left n l = record { said = n; lent = l }
+
+abbrev pub leftOf : Outcome (List ℕ) → Left
+leftOf o = left (saidOf (o .numbers)) (o .lent)
 
 -- what stands behind a number: a blank where others follow, else the line's end
 abbrev pub behindOf : List ℕ → ℕ

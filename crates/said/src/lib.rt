@@ -5,7 +5,7 @@ ghost use mathlib.Core.Bool.{cond};
 ghost use mathlib.Core.List.{_++_, _∷_, []};
 ghost use lib.Dec.{ltb};
 ghost use Rattle.text.specs.Out.{held, putAllOf, decimalOf};
-ghost use Rattle.said.specs.Numbers.{oneOf, twoOf, saidOf, rowOf, lineOf};
+ghost use Rattle.said.specs.Numbers.{oneOf, twoOf, unknown, saidOf, rowOf, lineOf};
 use store::Asked;
 use store::Did;
 use store::Found;
@@ -19,15 +19,34 @@ pub struct Said {
     pub c: u64,
 }
 
-fn refused(number: u32) -> Said
-    ensures { λ r. ⌜ r ≡ oneOf number ⌝ }
+// No such call, or not with the numbers given.
+pub fn unknown() -> Said
+    ensures { λ r. ⌜ r ≡ unknown ⌝ }
 {
     Said {
-        count: 1,
-        a: number as u64,
+        count: 4,
+        a: 0,
         b: 0,
         c: 0,
     }
+}
+
+// One number.
+pub fn one(a: u64) -> Said
+    ensures { λ r. ⌜ r ≡ oneOf a ⌝ }
+{
+    Said {
+        count: 1,
+        a,
+        b: 0,
+        c: 0,
+    }
+}
+
+fn refused(number: u32) -> Said
+    ensures { λ r. ⌜ r ≡ oneOf number ⌝ }
+{
+    one(number as u64)
 }
 
 fn value(v: u64) -> Said

@@ -7,11 +7,11 @@ use Rattle.replay.proofs.run.Statement.{statement}
 use Rattle.replay.proofs.run.Tie as tie
 
 abbrev Inv-loop : tie.InvT-loop
-Inv-loop desk₀ buf₀ piece₀ left₀ n₀ i₀ at₀ line₀ size₀ state₀ word₀ value₀ desk buf piece left n i at line size state word value =
+Inv-loop desk₀ buf₀ piece₀ left₀ n₀ i₀ at₀ line₀ code₀ word₀ desk buf piece left n i at line code word =
     (i ≤ n) × (n ≤ length piece₀) × (length desk ≡ length desk₀) × (length buf ≡ length buf₀) × (length piece ≡ length piece₀)
 
 abbrev μ-loop : tie.MeasureT-loop
-μ-loop desk₀ buf₀ piece₀ left₀ n₀ i₀ at₀ line₀ size₀ state₀ word₀ value₀ desk buf piece left n i at line size state word value =
+μ-loop desk₀ buf₀ piece₀ left₀ n₀ i₀ at₀ line₀ code₀ word₀ desk buf piece left n i at line code word =
     left + left + (n - i)
 
 loop-holds : tie.Need-loop-holds Inv-loop μ-loop
@@ -47,26 +47,11 @@ loop-less-2 c = search needs
 loop-again-2 : tie.Need-loop-again-2 Inv-loop μ-loop
 loop-again-2 c = search needs
 
-kind-requires : tie.Need-kind-requires Inv-loop μ-loop
-kind-requires c κs = search needs
-
-size-requires : tie.Need-size-requires Inv-loop μ-loop
-size-requires c κs = search needs
-
-state-requires : tie.Need-state-requires Inv-loop μ-loop
-state-requires c κs = search needs
+take-requires : tie.Need-take-requires Inv-loop μ-loop
+take-requires c κs = search needs
 
 word-requires : tie.Need-word-requires Inv-loop μ-loop
 word-requires c κs = search needs
-
-value-requires : tie.Need-value-requires Inv-loop μ-loop
-value-requires c κs = search needs
-
-place-requires : tie.Need-place-requires Inv-loop μ-loop
-place-requires c κs = search needs
-
-put-requires : tie.Need-put-requires Inv-loop μ-loop
-put-requires c κs = search needs
 
 loop-less-3 : tie.Need-loop-less-3 Inv-loop μ-loop
 loop-less-3 c = search needs
@@ -76,6 +61,9 @@ loop-again-3 c = search needs
 
 finish-requires : tie.Need-finish-requires Inv-loop μ-loop
 finish-requires c κs = search needs
+
+flush-requires : tie.Need-flush-requires Inv-loop μ-loop
+flush-requires c κs = search needs
 
 same-length : tie.Need-same-length Inv-loop μ-loop
 same-length c = search needs
@@ -106,16 +94,12 @@ run-spec =
     wrapping-add-u64-requires
     loop-less-2
     loop-again-2
-    kind-requires
-    size-requires
-    state-requires
+    take-requires
     word-requires
-    value-requires
-    place-requires
-    put-requires
     loop-less-3
     loop-again-3
     finish-requires
+    flush-requires
     same-length
     same-length-2
     same-length-3

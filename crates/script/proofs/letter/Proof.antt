@@ -1,0 +1,17 @@
+-- `script::letter` meets its contract. Assumes nothing.
+use mathlib.Core.Path.{sym}
+use borrow.Author.Tests.{lt-ltb, le-ltb}
+use Rattle.script.proofs.letter.Statement.{statement}
+use Rattle.script.proofs.letter.Tie as tie
+
+returns : tie.Need-returns
+returns c = sym (rw (lt-ltb _ _ (c .if1 .taken)))
+
+returns-2 : tie.Need-returns-2
+returns-2 c = sym (rw (le-ltb _ _ (c .before .if1 .left), lt-ltb _ _ (c .if2 .taken)))
+
+returns-3 : tie.Need-returns-3
+returns-3 c = sym (rw (le-ltb _ _ (c .before .if1 .left), le-ltb _ _ (c .if2 .left)))
+
+pub letter-spec : {M : Type 1} → statement M
+letter-spec = tie.close (tie.spec returns returns-2 returns-3)
