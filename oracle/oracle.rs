@@ -27,13 +27,14 @@ fn main() -> io::Result<()> {
         ["script", "refusal"] => store_scripts::refusal(&mut out)?,
         ["script", "walk"] => walk_scripts::walk(&mut out)?,
         ["script", "cursor"] => walk_scripts::cursor(&mut out)?,
+        ["script", "superset"] => walk_scripts::superset(&mut out)?,
         ["answer"] => {
             let mut script = Vec::new();
             io::stdin().lock().read_to_end(&mut script)?;
             answers::all(&script, &mut out)?;
         }
         _ => {
-            eprintln!("usage: oracle script average | row | bad | small | history | top | unsound | refusal | walk | cursor; oracle answer <SCRIPT");
+            eprintln!("usage: oracle script average | row | bad | small | history | top | unsound | refusal | walk | cursor | superset; oracle answer <SCRIPT");
             std::process::exit(2);
         }
     }

@@ -118,19 +118,3 @@ pub fn next(set: &BitSet, cursor: &Cursor, budget: u64) -> Step {
     }
     Step { cursor, answer, reads: counted.reads.get() }
 }
-
-/// As many members as `out` holds or the budget allows, by the crate's next, one after the other; how many there were, and what ended it:
-/// a full `out` is said as a member.
-pub fn fill(set: &BitSet, cursor: &Cursor, budget: u64, out: &mut [u64]) -> (Step, usize) {
-    let mut step = Step { cursor: cursor.clone(), answer: Answer::Member(0), reads: 0 };
-    for (count, place) in out.iter_mut().enumerate() {
-        let more = next(set, &step.cursor, budget - step.reads);
-        step = Step { reads: step.reads + more.reads, ..more };
-        match step.answer {
-            Answer::Member(id) => *place = id.into(),
-            _ => return (step, count),
-        }
-    }
-    let full = out.len();
-    (step, full)
-}
