@@ -1,5 +1,6 @@
 pub mod Ends
 pub mod Prefixes
+pub mod Fills
 pub mod Members
 pub mod Gaps
 pub mod Fewer
