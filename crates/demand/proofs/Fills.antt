@@ -4,9 +4,9 @@ use mathlib.Core.List.{List, [], _∷_, _++_, append-nil}
 use mathlib.Core.Path.{_≡_, refl, sym, ap, ap₂, _∙_, subst}
 use Prim.Native.Nat.{ℕ, zero, suc, _+_, _-_, _≤_, _<_}
 use native.Mathlib.Omega.{arith}
-use lib.ListN.{length}
+use lib.ListN.{length, length-append}
 use Rattle.store.specs.Layout.{top, cap, isStore}
-use Rattle.store.specs.Word.{word, Words64}
+use Rattle.store.specs.Word.{word, members, Sound, Words64}
 use Rattle.store.proofs.Geometry.{store-is}
 use Rattle.store.proofs.Words.{word-lt}
 use Rattle.iter.specs.declared.Cursor.{Cursor}
@@ -23,12 +23,13 @@ use Rattle.iter.proofs.Answers.{start-is}
 use Rattle.iter.proofs.Cursors.{Wf, fit-of, start-wf, start-fine}
 use Rattle.iter.proofs.Fills.{fill-runs}
 use Rattle.iter.proofs.Rest.{rest, cost, Moves, gone, Moved, moved-next, start-rest, start-cost}
-use Rattle.demand.specs.Fills.{Stopped, onward, Ask, fillsBy, AllStopped, fillOn, fillsOn}
+use Rattle.demand.specs.Fills.{Stopped, Ask, Some, Keeps, onward, fillsBy, AllStopped, fillAt, fillOn, fillsOn}
 use Rattle.demand.specs.Fills.Stopped.{full, paused, ended}
 use Rattle.demand.specs.Walks.{Bounded, Kept}
 use Rattle.demand.specs.Walks.Kept.{member, paused as pausedAt, ended as endedAt}
 use Rattle.demand.proofs.Ends.{next-kept}
 use Rattle.demand.proofs.Prefixes.{next-fine}
+use Rattle.demand.proofs.Store.{ids-members}
 
 -- ---- one fill
 
@@ -47,9 +48,8 @@ stopped-more b d m r h is Full n q (full g) = full {r = r + q} (omega arith)
 stopped-more b d m r h is StopPaused n q (paused g) = let z : b ≡ r + d = omega arith in subst (Stopped b (suc m) StopPaused (suc n)) z (paused {n = suc n} (omega arith))
 stopped-more b d m r h is StopEnd n q (ended g k) = ended {n = suc n} {r = r + q} (omega arith) (omega arith)
 
-stopped-by : (b m : ℕ) (o : Next) (r : ℕ) → Kept b o r → (c : Cursor) (on : Cursor → Filled)
-    → Stopped (b - r) m (on c .stop) (length (on c .ids)) (on c .reads)
-    → Stopped b (suc m) (goOn o r c on .stop) (length (goOn o r c on .ids)) (goOn o r c on .reads)
+stopped-by : (b m : ℕ) (o : Next) (r : ℕ) → Kept b o r → (c : Cursor) (on : Cursor → Filled) → Keeps (record { budget = b - r; room = m }) (on c)
+    → Keeps (record { budget = b; room = suc m }) (goOn o r c on)
 stopped-by b m (Member v) r (member h) c on s = stopped-more b (b - r) m r h refl (on c .stop) (length (on c .ids)) (on c .reads) s
 stopped-by b m Paused r pausedAt c on s = paused {n = 0} (omega arith)
 stopped-by b m End r (endedAt h) c on s = ended {n = 0} (omega arith) h
@@ -60,11 +60,11 @@ module _ (lw : ℕ → ℕ → ℕ) (t : ℕ) where
     pub moves : Moves lw t c (f .cursor) (f .ids) (f .reads) (suc t)
     pub wf : Wf t (f .cursor)
     pub fine : Fine t (c .prefix) → Fine t (f .cursor .prefix)
-    pub kept : Stopped (a .budget) (a .room) (f .stop) (length (f .ids)) (f .reads)
+    pub kept : Keeps a f
     pub over : f .stop ≡ StopEnd → (rest lw t (f .cursor) (suc t) ≡ []) × (cost lw t (f .cursor) (suc t) ≡ 0)
 
 module _ (lw : ℕ → ℕ → ℕ) (bounded : Bounded lw) (t : ℕ) where
-  by-answer : (a : Step) (c : Cursor) → Moved lw t c a → (b m : ℕ) (f : Cursor → Filled) → Stopped b (suc m) (goOn (a .answer) (a .reads) (a .cursor) f .stop) (length (goOn (a .answer) (a .reads) (a .cursor) f .ids)) (goOn (a .answer) (a .reads) (a .cursor) f .reads)
+  by-answer : (a : Step) (c : Cursor) → Moved lw t c a → (b m : ℕ) (f : Cursor → Filled) → Keeps (record { budget = b; room = suc m }) (goOn (a .answer) (a .reads) (a .cursor) f)
       → (Fine t (c .prefix) → Fine t (a .cursor .prefix)) → FillMoved lw t (record { budget = b - a .reads; room = m }) (a .cursor) (f (a .cursor))
       → FillMoved lw t (record { budget = b; room = suc m }) c (goOn (a .answer) (a .reads) (a .cursor) f)
   by-answer a c mv b m f kept fine later = go (a .answer) refl kept
@@ -75,7 +75,7 @@ module _ (lw : ℕ → ℕ → ℕ) (bounded : Bounded lw) (t : ℕ) where
       ids : (o : Next) → a .answer ≡ o → rest lw t c (suc t) ≡ gone o ++ rest lw t d (suc t)
       ids o q = mv .moves .ids ∙ ap (λ (x : Next). gone x ++ rest lw t d (suc t)) q
 
-      go : (o : Next) → a .answer ≡ o → Stopped b (suc m) (goOn o (a .reads) d f .stop) (length (goOn o (a .reads) d f .ids)) (goOn o (a .reads) d f .reads)
+      go : (o : Next) → a .answer ≡ o → Keeps (record { budget = b; room = suc m }) (goOn o (a .reads) d f)
           → FillMoved lw t (record { budget = b; room = suc m }) c (goOn o (a .reads) d f)
       go (Member v) q k = record {
         moves = record {
@@ -111,23 +111,20 @@ module _ (lw : ℕ → ℕ → ℕ) (bounded : Bounded lw) (t : ℕ) where
 
   -- ---- fills one after another
 
-  abbrev pub fill : Ask → Cursor → Filled
-  fill a c = fillFrom lw t (a .room) (a .budget) c
-
-  fills-whole : (l : List Ask) (c : Cursor) → Wf t c → fillsBy fill c l .over ≡ true
-      → (fillsBy fill c l .members ≡ rest lw t c (suc t)) × (fillsBy fill c l .total ≡ cost lw t c (suc t))
+  fills-whole : (l : List Ask) (c : Cursor) → Wf t c → fillsBy (fillAt lw t) c l .over ≡ true
+      → (fillsBy (fillAt lw t) c l .members ≡ rest lw t c (suc t)) × (fillsBy (fillAt lw t) c l .total ≡ cost lw t c (suc t))
   unfolding fillsBy
   fills-whole [] c wf e = absurd (true≢false (sym e))
   fills-whole (a ∷ l) c wf e =
-      let f = fill a c in
+      let f = fillAt lw t a c in
       let m = fill-moved (a .room) (a .budget) c wf in
       go (f .stop) refl m (λ h. fills-whole l (f .cursor) (m .wf) h) e
     where
       f : Filled
-      f = fill a c
+      f = fillAt lw t a c
 
       later : Run
-      later = fillsBy fill (f .cursor) l
+      later = fillsBy (fillAt lw t) (f .cursor) l
 
       go : (o : Stop) → f .stop ≡ o → FillMoved lw t a c f
           → (later .over ≡ true → (later .members ≡ rest lw t (f .cursor) (suc t)) × (later .total ≡ cost lw t (f .cursor) (suc t)))
@@ -141,21 +138,44 @@ module _ (lw : ℕ → ℕ → ℕ) (bounded : Bounded lw) (t : ℕ) where
       )
       go (StopRefused n) q m ih e = absurd (true≢false (sym e))
 
-  stopped-from : (l : List Ask) (c : Cursor) → Wf t c → AllStopped fill l c
+  stopped-from : (l : List Ask) (c : Cursor) → Wf t c → AllStopped (fillAt lw t) l c
   unfolding AllStopped
   stopped-from [] c wf = tt
-  stopped-from (a ∷ l) c wf = let m = fill-moved (a .room) (a .budget) c wf in (m .kept, stopped-from l (fill a c .cursor) (m .wf))
+  stopped-from (a ∷ l) c wf = let m = fill-moved (a .room) (a .budget) c wf in (m .kept, stopped-from l (fillAt lw t a c .cursor) (m .wf))
+
+  -- one that does not end makes what is left less
+  ends-from : (l : List Ask) (c : Cursor) → Wf t c → Some l → cost lw t c (suc t) + length (rest lw t c (suc t)) < length l → fillsBy (fillAt lw t) c l .over ≡ true
+  unfolding fillsBy
+  ends-from [] c wf s h = absurd (omega arith)
+  ends-from (a ∷ l) c wf s h =
+      let f = fillAt lw t a c in
+      let m = fill-moved (a .room) (a .budget) c wf in
+      let e : length (rest lw t c (suc t)) ≡ length (f .ids) + length (rest lw t (f .cursor) (suc t)) = ap length (m .moves .ids) ∙ length-append (f .ids) (rest lw t (f .cursor) (suc t)) in
+      go (f .stop) (m .kept) (λ p. ends-from l (f .cursor) (m .wf) (s .2) (omega (arith, h, e, m .moves .count, p)))
+    where
+      later : Run
+      later = fillsBy (fillAt lw t) (fillAt lw t a c .cursor) l
+
+      go : (o : Stop) {n r : ℕ} → Stopped (a .budget) (a .room) o n r → (1 ≤ r + n → later .over ≡ true) → onward o (fillAt lw t a c .ids) (fillAt lw t a c .reads) later .over ≡ true
+      go Full (full x) ih = ih (omega (arith, s .1))
+      go StopPaused (paused x) ih = ih (omega (arith, s .0))
+      go StopEnd (ended x y) ih = refl
 
   -- THE WALK by fills. Whatever the budgets and places: fills that end have handed out exactly the ids below the top word, in the
   -- definition's order, and with the start's read they have reported the definition's count.
-  pub fills-all : (l : List Ask) → fillsBy fill (startAt t (lw t 0)) l .over ≡ true
-      → (fillsBy fill (startAt t (lw t 0)) l .members ≡ allIds lw t) × (1 + fillsBy fill (startAt t (lw t 0)) l .total ≡ allReads lw t)
+  pub fills-all : (l : List Ask) → fillsBy (fillAt lw t) (startAt t (lw t 0)) l .over ≡ true
+      → (fillsBy (fillAt lw t) (startAt t (lw t 0)) l .members ≡ allIds lw t) × (1 + fillsBy (fillAt lw t) (startAt t (lw t 0)) l .total ≡ allReads lw t)
   fills-all l e =
       let r = fills-whole l (startAt t (lw t 0)) (start-wf t (lw t 0) (bounded t 0)) e in
       (r .0 ∙ start-rest lw t, ap (λ (x : ℕ). 1 + x) (r .1) ∙ start-cost lw t)
 
+  -- and enough fills, each with a budget and places of one or more, end it
+  pub fills-end : (l : List Ask) → Some l → allReads lw t + length (allIds lw t) ≤ length l → fillsBy (fillAt lw t) (startAt t (lw t 0)) l .over ≡ true
+  fills-end l s h =
+      ends-from l (startAt t (lw t 0)) (start-wf t (lw t 0) (bounded t 0)) s (omega (arith, start-cost lw t, ap length (start-rest lw t)))
+
   -- none of them reads past its budget or refuses
-  pub fills-stopped : (l : List Ask) → AllStopped fill l (startAt t (lw t 0))
+  pub fills-stopped : (l : List Ask) → AllStopped (fillAt lw t) l (startAt t (lw t 0))
   fills-stopped l = stopped-from l (startAt t (lw t 0)) (start-wf t (lw t 0) (bounded t 0))
 
 -- ---- on one store
@@ -168,27 +188,27 @@ module _ (s : List ℕ) (is : isStore s ≡ true) (small : Words64 s) where
   t = top (cap s)
 
   -- A FILL of a store at a cursor whose prefixes fit
-  pub fill-is : (a : Ask) (c : Cursor) → Fine t (c .prefix) → fillOn s a c ≡ fillFrom lw t (a .room) (a .budget) c
+  pub fill-is : (a : Ask) (c : Cursor) → Fine t (c .prefix) → fillOn s a c ≡ fillAt lw t a c
   fill-is a c f = sym (fill-runs (store-is is) c (a .budget) (a .room) (fit-of t (c .prefix) f))
 
   fills-is : (l : List Ask) (c : Cursor) → Wf t c → Fine t (c .prefix)
-      → (fillsBy (fillOn s) c l ≡ fillsBy (fill lw (word-lt (cap s) s small) t) c l) × AllStopped (fillOn s) l c
+      → (fillsBy (fillOn s) c l ≡ fillsBy (fillAt lw t) c l) × AllStopped (fillOn s) l c
   unfolding fillsBy AllStopped
   fills-is [] c wf f = (refl, tt)
   fills-is (a ∷ l) c wf f =
-      let g = fillFrom lw t (a .room) (a .budget) c in
+      let g = fillAt lw t a c in
       let m = fill-moved lw (word-lt (cap s) s small) t (a .room) (a .budget) c wf in
       let i = fills-is l (g .cursor) (m .wf) (m .fine f) in (
         ap (λ (x : Filled). onward (x .stop) (x .ids) (x .reads) (fillsBy (fillOn s) (x .cursor) l)) (fill-is a c f)
             ∙ ap (onward (g .stop) (g .ids) (g .reads)) (i .0),
-        subst (λ (x : Filled). Stopped (a .budget) (a .room) (x .stop) (length (x .ids)) (x .reads) × AllStopped (fillOn s) l (x .cursor))
+        subst (λ (x : Filled). Keeps a x × AllStopped (fillOn s) l (x .cursor))
             (sym (fill-is a c f)) (m .kept, i .1),
       )
 
   from-start : (c : Cursor) (l : List Ask)
-      → (fillsOn s c l ≡ fillsBy (fill lw (word-lt (cap s) s small) t) (startAt t (lw t 0)) l) × AllStopped (fillOn s) l (startIn s c .cursor)
+      → (fillsOn s c l ≡ fillsBy (fillAt lw t) (startAt t (lw t 0)) l) × AllStopped (fillOn s) l (startIn s c .cursor)
   from-start c l =
-      subst (λ (x : Cursor). (fillsBy (fillOn s) x l ≡ fillsBy (fill lw (word-lt (cap s) s small) t) (startAt t (lw t 0)) l) × AllStopped (fillOn s) l x)
+      subst (λ (x : Cursor). (fillsBy (fillOn s) x l ≡ fillsBy (fillAt lw t) (startAt t (lw t 0)) l) × AllStopped (fillOn s) l x)
       (sym (ap (λ (x : Step). x .cursor) (start-is (store-is is) c)))
       (fills-is l (startAt t (lw t 0)) (start-wf t (lw t 0) (word-lt (cap s) s small t 0)) (start-fine t (lw t 0)))
 
@@ -205,3 +225,10 @@ module _ (s : List ℕ) (is : isStore s ≡ true) (small : Words64 s) where
         ap (λ (x : Run). x .members) w ∙ r .0,
         ap₂ (λ (x : Step) (y : Run). x .reads + y .total) (start-is (store-is is) c) w ∙ r .1,
       )
+
+  pub fills-over : (c : Cursor) (l : List Ask) → Some l → allReads lw t + length (allIds lw t) ≤ length l → fillsOn s c l .over ≡ true
+  fills-over c l some h = ap (λ (x : Run). x .over) (from-start c l .0) ∙ fills-end lw (word-lt (cap s) s small) t l some h
+
+  -- on a sound store those ids are the members
+  pub fills-members : Sound (cap s) s → (c : Cursor) (l : List Ask) → fillsOn s c l .over ≡ true → fillsOn s c l .members ≡ members s
+  fills-members z c l e = fills-defined c l e .0 ∙ ids-members s is small z

@@ -1,7 +1,7 @@
 pub mod Ends
 pub mod Prefixes
-pub mod Fills
 pub mod Members
 pub mod Gaps
 pub mod Fewer
 pub mod Store
+pub mod Fills

@@ -7,7 +7,7 @@ use Rattle.iter.specs.declared.Cursor.{Cursor}
 use Rattle.iter.specs.declared.Stop.{Stop}
 use Rattle.iter.specs.declared.Stop.the-variants.{Full, Paused, End, Refused}
 use Rattle.iter.specs.Calls.{startIn}
-use Rattle.iter.specs.Fill.{Filled, fillIn}
+use Rattle.iter.specs.Fill.{Filled, fillFrom, fillIn}
 use Rattle.iter.specs.Walk.{Run}
 
 -- a stop at budget b and m places, with the ids handed out and the reads: all places taken, or all of the budget spent, or the end; the
@@ -17,17 +17,27 @@ pub data Stopped (b m : ℕ) : Stop → ℕ → ℕ → Type 0 where
   paused : {n : ℕ} → n ≤ m → Stopped b m Paused n b
   ended : {n r : ℕ} → n ≤ m → r ≤ b → Stopped b m End n r
 
+-- a budget and a number of places, both one or more in a list that goes on
+pub record Ask : Type 0 where
+  pub budget : ℕ
+  pub room : ℕ
+
+abbrev pub Some : List Ask → Type 0
+Some [] = Unit {0}
+Some (a ∷ l) = (1 ≤ a .budget) × (1 ≤ a .room) × Some l
+
+-- a fill that stops so
+abbrev pub Keeps : Ask → Filled → Type 0
+Keeps a f = Stopped (a .budget) (a .room) (f .stop) (length (f .ids)) (f .reads)
+
+-- ---- fills one after another
+
 -- one fill before what the later ones do; the end and a refusal stop it
 abbrev pub onward : Stop → List ℕ → ℕ → Run → Run
 onward Full l r w = record { members = l ++ w .members; total = r + w .total; over = w .over }
 onward Paused l r w = record { members = l ++ w .members; total = r + w .total; over = w .over }
 onward End l r w = record { members = l; total = r; over = true }
 onward (Refused n) l r w = record { members = l; total = r; over = false }
-
--- a budget and a number of places
-pub record Ask : Type 0 where
-  pub budget : ℕ
-  pub room : ℕ
 
 -- a fill for each of a list, by what one does at a cursor
 unfoldable pub fillsBy : (Ask → Cursor → Filled) → Cursor → List Ask → Run
@@ -37,7 +47,11 @@ fillsBy call c (a ∷ l) = let f = call a c in onward (f .stop) (f .ids) (f .rea
 -- every fill of a list stops so
 unfoldable pub AllStopped : (Ask → Cursor → Filled) → List Ask → Cursor → Type 0
 AllStopped call [] c = Unit {0}
-AllStopped call (a ∷ l) c = let f = call a c in Stopped (a .budget) (a .room) (f .stop) (length (f .ids)) (f .reads) × AllStopped call l (f .cursor)
+AllStopped call (a ∷ l) c = let f = call a c in Keeps a f × AllStopped call l (f .cursor)
+
+-- over any layer words, with t the top layer
+abbrev pub fillAt : (ℕ → ℕ → ℕ) → ℕ → Ask → Cursor → Filled
+fillAt lw t a c = fillFrom lw t (a .room) (a .budget) c
 
 -- ---- on one store
 

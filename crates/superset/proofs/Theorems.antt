@@ -40,8 +40,8 @@ held-each s [] = (λ e i m. absurd (List·Memᴰ·not-nil m), λ h. refl)
 held-each s (x ∷ l) =
     let ih = held-each s l in (
       λ e i m.
-      let b = both (isMember s x) (allHeld s l) e in
-      ⊎-elim (λ (q : i ≡ x). subst (Member s) (sym q) (member-of s x (b .0))) (λ (q : List·Memᴰ i l). ih .0 (b .1) i q) (List·Memᴰ·cases-cons m),
+          let b = both (isMember s x) (allHeld s l) e in
+          ⊎-elim (λ (q : i ≡ x). subst (Member s) (sym q) (member-of s x (b .0))) (λ (q : List·Memᴰ i l). ih .0 (b .1) i q) (List·Memᴰ·cases-cons m),
       λ h. ap₂ (λ (a b : Bool). a && b) (of-member s x (h x (List·Memᴰ·head refl))) (ih .1 (λ i m. h i (List·Memᴰ·tail m))),
     )
 
