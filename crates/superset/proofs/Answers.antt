@@ -1,13 +1,12 @@
 -- What each way out of `contains_set` answers is what the definition answers there.
-use mathlib.Core.Bool.{Bool, true, false, cond, _&&_}
+use mathlib.Core.Bool.{Bool, false}
 use mathlib.Core.List.{List}
 use mathlib.Core.Logic.{_≢_}
-use mathlib.Core.Path.{_≡_, sym, _∙_}
+use mathlib.Core.Path.{_≡_, sym, ap, _∙_}
 use Prim.Native.Nat.{ℕ}
 use borrow.Author.Tests.{eq-eqb, ne-eqb}
-use lib.Dec.{eqb}
 use Rattle.util.specs.Outcome.{Settled, settled}
-use Rattle.store.specs.Answer.{askedPaper}
+use Rattle.store.specs.Answer.{askedPaper, says}
 use Rattle.store.specs.Layout.{cap, isStore, StoreOf}
 use Rattle.store.specs.declared.Asked.the-variants.{Is, Refused}
 use Rattle.store.proofs.Geometry.{is-store}
@@ -29,4 +28,5 @@ module _ {N : ℕ} {s : List ℕ} (z : StoreOf N s) where
 
     pub said-is : (r : Bool) → N ≡ M → r ≡ allHeld s (walked t) → Settled askedPaper (containsSetOf s t) (Is r) tt
     unfolding containsSetOf
-    said-is r e q = settled (rw (is-store z, is-store y, eq-eqb (cap s) (cap t) (z .names ∙ e ∙ sym (y .names)), ← q))
+    said-is r e q =
+        settled (rw (is-store z, is-store y, eq-eqb (cap s) (cap t) (z .names ∙ e ∙ sym (y .names))) (ap (λ (b : Bool). says b tt) (sym q)))

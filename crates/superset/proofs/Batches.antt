@@ -1,8 +1,8 @@
 -- The walk of the other store in batches. The invariant: whether the store has what is left of the walk is whether it has all of it.
 use mathlib.Core.Bool.{Bool, true, false, _&&_, true≢false}
-use mathlib.Core.List.{List, [], _∷_, _++_}
-use mathlib.Core.Path.{_≡_, refl, sym, ap, ap₂, _∙_, subst}
-use Prim.Native.Nat.{ℕ, suc, _+_, _-_, _≤_, _<_}
+use mathlib.Core.List.{List, [], _++_}
+use mathlib.Core.Path.{_≡_, refl, sym, ap, _∙_, subst}
+use Prim.Native.Nat.{ℕ, suc, _+_, _≤_, _<_}
 use native.Mathlib.Omega.{arith}
 use lib.ListN.{length, take, drop, length-append, length-drop}
 use lib.Seq.{take-append-seam}
@@ -15,16 +15,16 @@ use Rattle.iter.specs.declared.Batch.{Batch}
 use Rattle.iter.specs.declared.Cursor.{Cursor}
 use Rattle.iter.specs.declared.Step.{Step}
 use Rattle.iter.specs.declared.Stop.{Stop}
-use Rattle.iter.specs.declared.Stop.the-variants.{Full, Paused, End, Refused}
+use Rattle.iter.specs.declared.Stop.the-variants.{Full, Paused, End}
 use Rattle.iter.specs.Calls.{Fine, stepPaper, startOf, startIn}
 use Rattle.iter.specs.Fill.{Filled, batchPaper, batch, fillFrom, fillIn, fillOf}
 use Rattle.iter.specs.Walk.{startAt}
 use Rattle.iter.proofs.Answers.{start-is}
 use Rattle.iter.proofs.Cursors.{Wf, start-wf, start-fine}
 use Rattle.iter.proofs.Rest.{rest, cost, Moves, start-rest}
-use Rattle.demand.specs.Fills.{Stopped, Ask}
+use Rattle.demand.specs.Fills.{Stopped}
 use Rattle.demand.specs.Fills.Stopped.{full, paused, ended}
-use Rattle.demand.proofs.Fills.{FillMoved, fill-moved, fill-is}
+use Rattle.demand.proofs.Fills.{fill-moved, fill-is}
 use Rattle.superset.specs.Calls.{allHeld, walked}
 use Rattle.superset.specs.Steps.{zero, goesOn}
 use Rattle.superset.proofs.Held.{held-append}

@@ -1,11 +1,11 @@
 -- The ids of a list that a store has as members: by what `contains` says of each, and by parts of the list.
-use mathlib.Core.Bool.{Bool, true, false, cond, _&&_}
+use mathlib.Core.Bool.{Bool, true, false, _&&_}
 use mathlib.Core.List.{List, [], _∷_, _++_}
 use mathlib.Core.Path.{_≡_, refl, sym, ap, _∙_}
 use Prim.Native.Nat.{ℕ, suc, _<_}
 use lib.ListN.{length, getD, drop}
 use lib.Seq.{drop-cons, drop-length}
-use Rattle.util.specs.Outcome.{Outcome, Settled, settled, settles}
+use Rattle.util.specs.Outcome.{Settled, settled, settles}
 use Rattle.store.specs.Answer.{askedPaper}
 use Rattle.store.specs.Layout.{isStore}
 use Rattle.store.specs.declared.Asked.{Asked}

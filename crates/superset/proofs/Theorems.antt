@@ -3,7 +3,7 @@ use mathlib.Core.Bool.{Bool, true, _&&_}
 use mathlib.Core.List.{List, [], _∷_, List·Memᴰ, List·Memᴰ·cases-cons, List·Memᴰ·not-nil}
 use mathlib.Core.List.List·Memᴰ.{List·Memᴰ·head, List·Memᴰ·tail}
 use mathlib.Core.Logic.{_↔_, ⊎-elim}
-use mathlib.Core.Path.{_≡_, refl, sym, ap, ap₂, _∙_, subst}
+use mathlib.Core.Path.{_≡_, refl, sym, ap, ap₂, subst}
 use Prim.Native.Nat.{ℕ}
 use borrow.Author.Tests.{eq-eqb, eqb-true, lt-ltb, ltb-true}
 use lib.Dec.{ltb}
@@ -11,8 +11,7 @@ use Rattle.util.specs.Outcome.{Settled, settles}
 use Rattle.util.proofs.Same.{both}
 use Rattle.store.specs.Answer.{askedPaper}
 use Rattle.store.specs.Layout.{cap, isStore}
-use Rattle.store.specs.Word.{on, Member, members, Sound, Words64}
-use Rattle.store.specs.declared.Asked.{Asked}
+use Rattle.store.specs.Word.{on, Member, Sound, Words64}
 use Rattle.store.specs.declared.Asked.the-variants.{Is}
 use Rattle.store.proofs.Geometry.{store-is}
 use Rattle.store.proofs.Members.{members-are}

@@ -1,9 +1,9 @@
 -- `superset::all_walked` meets its contract: what is left of the walk decides, and gets less with each batch. Assumes nothing.
-use mathlib.Core.Path.{_≡_, sym, ap, _∙_}
+use mathlib.Core.Path.{sym, ap, _∙_}
 use native.Mathlib.Omega.{arith}
 use borrow.Author.Needs.{needs}
 use borrow.Author.Tests.{not-true, not-false}
-use lib.ListN.{length, take, length-take}
+use lib.ListN.{length}
 use Rattle.store.specs.Word.{Words64}
 use Rattle.superset.proofs.Batches.{left, Going, Turn, going-start, turn, one-lacks, all-there, going-on, less-left}
 use Rattle.superset.proofs.all_walked.Statement.{statement}
