@@ -226,6 +226,7 @@ module _ (s : List ℕ) (is : isStore s ≡ true) (small : Words64 s) where
         ap₂ (λ (x : Step) (y : Run). x .reads + y .total) (start-is (store-is is) c) w ∙ r .1,
       )
 
+  -- and enough fills end it
   pub fills-over : (c : Cursor) (l : List Ask) → Some l → allReads lw t + length (allIds lw t) ≤ length l → fillsOn s c l .over ≡ true
   fills-over c l some h = ap (λ (x : Run). x .over) (from-start c l .0) ∙ fills-end lw (word-lt (cap s) s small) t l some h
 

@@ -17,11 +17,12 @@ pub data Stopped (b m : ℕ) : Stop → ℕ → ℕ → Type 0 where
   paused : {n : ℕ} → n ≤ m → Stopped b m Paused n b
   ended : {n r : ℕ} → n ≤ m → r ≤ b → Stopped b m End n r
 
--- a budget and a number of places, both one or more in a list that goes on
+-- what a fill is asked for: a budget and a number of places
 pub record Ask : Type 0 where
   pub budget : ℕ
   pub room : ℕ
 
+-- every budget and every number of places of a list is one or more
 abbrev pub Some : List Ask → Type 0
 Some [] = Unit {0}
 Some (a ∷ l) = (1 ≤ a .budget) × (1 ≤ a .room) × Some l
@@ -55,6 +56,7 @@ fillAt lw t a c = fillFrom lw t (a .room) (a .budget) c
 
 -- ---- on one store
 
+-- a call of fill, by what it is asked for
 abbrev pub fillOn : List ℕ → Ask → Cursor → Filled
 fillOn s a c = fillIn s c (a .budget) (a .room)
 

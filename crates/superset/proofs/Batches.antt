@@ -40,6 +40,7 @@ ahead t c = rest (word (cap t) t) (top (cap t)) c (suc (top (cap t)))
 abbrev pub left : List ℕ → Cursor → ℕ
 left t c = cost (word (cap t) t) (top (cap t)) c (suc (top (cap t))) + length (ahead t c)
 
+-- the walk of t stands at c, with ids from earlier batches in the array
 pub record Going (s t ids : List ℕ) (c : Cursor) : Type 0 where
   pub wf : Wf (top (cap t)) c
   pub fine : Fine (top (cap t)) (c .prefix)

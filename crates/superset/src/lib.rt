@@ -11,7 +11,7 @@ use iter::Cursor;
 use iter::Stop;
 use store::Asked;
 
-// A budget of word reads that no walk of a store spends.
+// The largest budget of word reads; a walk that had spent it would go on with the next batch.
 const BUDGET: u64 = 18446744073709551615;
 
 // Whether a store has an id as a member.
