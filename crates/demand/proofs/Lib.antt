@@ -4,3 +4,4 @@ pub mod Members
 pub mod Gaps
 pub mod Fewer
 pub mod Store
+pub mod Fills

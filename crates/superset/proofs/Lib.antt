@@ -1,0 +1,4 @@
+pub mod Held
+pub mod Batches
+pub mod Answers
+pub mod Theorems

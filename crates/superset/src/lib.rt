@@ -1,0 +1,104 @@
+// One set within another: the Rust's `BitSet::contains_set`, by a walk of the other store in batches.
+ghost use mathlib.Core.Bool.{true};
+ghost use mathlib.Core.Path.{_≡_};
+ghost use Rattle.util.specs.Outcome.{Settled};
+ghost use Rattle.store.specs.Answer.{askedPaper};
+ghost use Rattle.store.specs.Layout.{isStore};
+ghost use Rattle.iter.specs.Calls.{startIn};
+ghost use Rattle.superset.specs.Calls.{isMember, allHeld, walked, containsSetOf};
+ghost use Rattle.superset.specs.Steps.{zero, goesOn};
+use iter::Cursor;
+use iter::Stop;
+use store::Asked;
+
+// The largest budget of word reads; a walk that had spent it would go on with the next batch.
+const BUDGET: u64 = 18446744073709551615;
+
+// Whether a store has an id as a member.
+fn is_member(store: &[u64], id: u32) -> bool
+    requires { ⌜ isStore (now store) ≡ true ⌝ }
+    ensures { λ r. ⌜ r ≡ isMember (now (store .entry)) id ⌝ }
+{
+    match bitset::contains(store, id) {
+        Asked::Is(yes) => yes,
+        Asked::Refused(_) => false,
+    }
+}
+
+// Whether it has all ids of a batch.
+fn all_held(store: &[u64], ids: &[u32]) -> bool
+    requires { ⌜ isStore (now store) ≡ true ⌝ }
+    ensures { λ r. ⌜ r ≡ allHeld (now (store .entry)) (now (ids .entry)) ⌝ }
+{
+    let mut i = 0;
+    while i < ids.len() {
+        if !is_member(store, ids[i]) {
+            return false;
+        }
+        i += 1;
+    }
+    true
+}
+
+// The cursor of a walk that is started.
+fn started(store: &[u64]) -> Cursor
+    ensures { λ r. ⌜ r ≡ startIn (now (store .entry)) zero .cursor ⌝ }
+{
+    let c = Cursor {
+        masks: [0; 4],
+        prefix: [0; 3],
+    };
+    let s = c.start(store);
+    s.cursor
+}
+
+// Whether a walk goes on after a fill.
+fn goes_on(stop: Stop) -> bool
+    ensures { λ r. ⌜ r ≡ goesOn stop ⌝ }
+{
+    match stop {
+        Stop::Full => true,
+        Stop::Paused => true,
+        Stop::End => false,
+        Stop::Refused(_) => false,
+    }
+}
+
+// Whether a store has every id that a walk of the other one hands out, 64 ids at a time.
+fn all_walked(store: &[u64], other: &[u64]) -> bool
+    requires { ⌜ (isStore (now store) ≡ true) × (isStore (now other) ≡ true) ⌝ }
+    ensures { λ r. ⌜ r ≡ allHeld (now (store .entry)) (walked (now (other .entry))) ⌝ }
+{
+    let mut ids = [0u32; 64];
+    let mut c = started(other);
+    loop {
+        let b = c.fill(other, BUDGET, &mut ids);
+        let n = b.count;
+        if !all_held(store, &ids[..n]) {
+            return false;
+        }
+        let stop = b.stop;
+        if !goes_on(stop) {
+            return true;
+        }
+        c = b.cursor;
+    }
+}
+
+// Whether every id that a walk of the other store hands out is a member of this one.
+pub fn contains_set(store: &[u64], other: &[u64]) -> Asked
+    ensures { λ r. ⌜ Settled askedPaper (containsSetOf (now (store .entry)) (now (other .entry))) r tt ⌝ }
+{
+    let n = store::capacity(store);
+    if n == 0 {
+        return Asked::Refused(2);
+    }
+    let m = store::capacity(other);
+    if m == 0 {
+        return Asked::Refused(2);
+    }
+    if n != m {
+        return Asked::Refused(5);
+    }
+    Asked::Is(all_walked(store, other))
+}
