@@ -8,9 +8,10 @@ use Rattle.bitset.specs.Calls.{containsOf}
 use Rattle.whole.specs.Calls.{isEmptyOf, equalOf}
 use Rattle.summary.specs.Calls.{isSoundOf}
 use Rattle.free.specs.Calls.{firstFreeOf}
+use Rattle.superset.specs.Calls.{containsSetOf}
 use Rattle.desk.specs.Slots.{numberOf, partOf}
 use Rattle.said.specs.Numbers.{unknown, saidOf}
-use Rattle.asks.specs.Calls.{contains, isempty, equal, sound, free, heldOf, alikeOf, ask1Of, ask2Of, askOf}
+use Rattle.asks.specs.Calls.{contains, isempty, equal, superset, sound, free, heldOf, bothOf, slotsOf, ask1Of, ask2Of, askOf}
 
 -- ---- each call
 
@@ -23,14 +24,27 @@ module _ (s : List ℕ) (i : ℕ) where
   unfolding heldOf
   held-no h = rw (le-ltb i 4294967296 (omega arith))
 
-module _ (s desk : List ℕ) (t : ℕ) where
-  pub alike-in : t ≤ 15 → (l : List ℕ) → l ≡ partOf desk t → saidOf (equalOf s l .numbers) ≡ alikeOf s desk t
-  unfolding alikeOf
-  alike-in h l e = rw (lt-ltb t 16 (omega arith), e)
+module _ (s t : List ℕ) {w : ℕ} where
+  pub both-equal : w ≡ equal → saidOf (equalOf s t .numbers) ≡ bothOf s t w
+  unfolding bothOf
+  both-equal e = rw e
 
-  pub alike-no : 15 < t → unknown ≡ alikeOf s desk t
-  unfolding alikeOf
-  alike-no h = rw (le-ltb t 16 (omega arith))
+  pub both-superset : w ≡ superset → saidOf (containsSetOf s t .numbers) ≡ bothOf s t w
+  unfolding bothOf
+  both-superset e = rw e
+
+  pub both-other : (w ≡ equal → ⊥) → (w ≡ superset → ⊥) → unknown ≡ bothOf s t w
+  unfolding bothOf
+  both-other e f = rw (ne-eqb w equal e, ne-eqb w superset f)
+
+module _ (s desk : List ℕ) (w t : ℕ) where
+  pub slots-in : t ≤ 15 → (l : List ℕ) → l ≡ partOf desk t → bothOf s l w ≡ slotsOf s desk w t
+  unfolding slotsOf
+  slots-in h l e = rw (lt-ltb t 16 (omega arith), e)
+
+  pub slots-no : 15 < t → unknown ≡ slotsOf s desk w t
+  unfolding slotsOf
+  slots-no h = rw (le-ltb t 16 (omega arith))
 
 -- ---- by the word
 
@@ -56,13 +70,9 @@ module _ (s desk : List ℕ) {w : ℕ} (i : ℕ) where
   unfolding ask2Of
   two-contains e = rw e
 
-  pub two-equal : w ≡ equal → alikeOf s desk i ≡ ask2Of s desk w i
+  pub two-slots : (w ≡ contains → ⊥) → slotsOf s desk w i ≡ ask2Of s desk w i
   unfolding ask2Of
-  two-equal e = rw e
-
-  pub two-other : (w ≡ contains → ⊥) → (w ≡ equal → ⊥) → unknown ≡ ask2Of s desk w i
-  unfolding ask2Of
-  two-other e g = rw (ne-eqb w contains e, ne-eqb w equal g)
+  two-slots e = rw (ne-eqb w contains e)
 
 -- ---- by the count
 

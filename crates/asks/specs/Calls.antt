@@ -9,6 +9,7 @@ use Rattle.bitset.specs.Calls.{containsOf}
 use Rattle.whole.specs.Calls.{isEmptyOf, equalOf}
 use Rattle.summary.specs.Calls.{isSoundOf}
 use Rattle.free.specs.Calls.{firstFreeOf}
+use Rattle.superset.specs.Calls.{containsSetOf}
 use Rattle.desk.specs.Slots.{numberOf, isId, isSlot, partOf}
 use Rattle.said.specs.Numbers.{unknown, saidOf}
 use Rattle.said.specs.declared.Said.{Said}
@@ -22,6 +23,9 @@ isempty = 29681752019596409
 
 abbrev pub equal : ℕ
 equal = 435695214956
+
+abbrev pub superset : ℕ
+superset = 8319679467651032436
 
 abbrev pub sound : ℕ
 sound = 495791205988
@@ -40,12 +44,17 @@ ask1Of s w =
 unfoldable pub heldOf : List ℕ → ℕ → Said
 heldOf s i = cond (isId i) (saidOf (containsOf s i .numbers)) unknown
 
--- "`equal S T`: `whole::equal`"
-unfoldable pub alikeOf : List ℕ → List ℕ → ℕ → Said
-alikeOf s desk t = cond (isSlot t) (saidOf (equalOf s (partOf desk t) .numbers)) unknown
+-- "`equal S T`: `whole::equal`. `superset S T`: `superset::contains_set`"
+unfoldable pub bothOf : List ℕ → List ℕ → ℕ → Said
+bothOf s t w =
+    cond (eqb w equal) (saidOf (equalOf s t .numbers))
+    (cond (eqb w superset) (saidOf (containsSetOf s t .numbers)) unknown)
+
+unfoldable pub slotsOf : List ℕ → List ℕ → ℕ → ℕ → Said
+slotsOf s desk w t = cond (isSlot t) (bothOf s (partOf desk t) w) unknown
 
 unfoldable pub ask2Of : List ℕ → List ℕ → ℕ → ℕ → Said
-ask2Of s desk w i = cond (eqb w contains) (heldOf s i) (cond (eqb w equal) (alikeOf s desk i) unknown)
+ask2Of s desk w i = cond (eqb w contains) (heldOf s i) (slotsOf s desk w i)
 
 -- by the count of the line's numbers, of which the first is the slot's
 unfoldable pub askOf : List ℕ → ℕ → ℕ → Said

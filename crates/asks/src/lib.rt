@@ -1,6 +1,6 @@
 // The commands of a script that ask for the calls that judge a store (docs/REPLAY.md).
 ghost use mathlib.Core.Path.{_≡_};
-ghost use Rattle.asks.specs.Calls.{heldOf, alikeOf, ask1Of, ask2Of, askOf};
+ghost use Rattle.asks.specs.Calls.{heldOf, bothOf, slotsOf, ask1Of, ask2Of, askOf};
 use said::Said;
 
 // The command words, a letter a byte, the first the highest.
@@ -9,6 +9,8 @@ const CONTAINS: u64 = 0x636f_6e74_6169_6e73;
 const ISEMPTY: u64 = 0x69_7365_6d70_7479;
 
 const EQUAL: u64 = 0x65_7175_616c;
+
+const SUPERSET: u64 = 0x7375_7065_7273_6574;
 
 const SOUND: u64 = 0x73_6f75_6e64;
 
@@ -27,14 +29,25 @@ fn held(part: &[u64], i: u64) -> Said
     said::asked(bitset::contains(part, i as u32))
 }
 
-// equal S T
-fn alike(part: &[u64], desk: &[u64], t: u64) -> Said
-    ensures { λ r. ⌜ r ≡ alikeOf (now (part .entry)) (now (desk .entry)) t ⌝ }
+// equal S T, superset S T
+fn both(part: &[u64], other: &[u64], word: u64) -> Said
+    ensures { λ r. ⌜ r ≡ bothOf (now (part .entry)) (now (other .entry)) word ⌝ }
+{
+    match word {
+        EQUAL => said::asked(whole::equal(part, other)),
+        SUPERSET => said::asked(superset::contains_set(part, other)),
+        _ => said::unknown(),
+    }
+}
+
+// What is asked of two slots.
+fn ask_both(part: &[u64], desk: &[u64], word: u64, t: u64) -> Said
+    ensures { λ r. ⌜ r ≡ slotsOf (now (part .entry)) (now (desk .entry)) word t ⌝ }
 {
     if 15 < t {
         return said::unknown();
     }
-    said::asked(whole::equal(part, desk::part(desk, t)))
+    both(part, desk::part(desk, t), word)
 }
 
 // What is asked of a slot alone.
@@ -55,8 +68,7 @@ fn ask2(part: &[u64], desk: &[u64], word: u64, i: u64) -> Said
 {
     match word {
         CONTAINS => held(part, i),
-        EQUAL => alike(part, desk, i),
-        _ => said::unknown(),
+        _ => ask_both(part, desk, word, i),
     }
 }
 
