@@ -3,7 +3,7 @@ use mathlib.Core.Bool.{cond, _&&_}
 use mathlib.Core.List.{List, [], _∷_}
 use Prim.Native.Nat.{ℕ}
 use lib.Dec.{ltb, eqb}
-use lib.ListN.{length, getD, set}
+use lib.ListN.{length, getD}
 use Rattle.iter.specs.declared.Cursor.{Cursor}
 use Rattle.iter.specs.declared.Next.{Next}
 use Rattle.iter.specs.declared.Next.the-variants.{Member, Paused, End, Refused}
@@ -33,9 +33,7 @@ unfoldable pub putOf : List ℕ → Cursor → ℕ → List ℕ
 putOf l c r =
     let m = c .masks in
     let p = c .prefix in
-    let ms = set (set (set (set l 0 (getD m 0 0)) 1 (getD m 1 0)) 2 (getD m 2 0)) 3 (getD m 3 0) in
-    let ps = set (set (set ms 5 (getD p 0 0)) 6 (getD p 1 0)) 7 (getD p 2 0) in
-    set ps 9 r
+    getD m 0 0 ∷ getD m 1 0 ∷ getD m 2 0 ∷ getD m 3 0 ∷ getD l 4 0 ∷ getD p 0 0 ∷ getD p 1 0 ∷ getD p 2 0 ∷ getD l 8 0 ∷ r ∷ []
 
 -- ---- answers: "Each returns its number and zeros elsewhere and changes nothing lent; a refused next hands back its cursor as given."
 

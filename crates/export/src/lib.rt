@@ -100,16 +100,22 @@ fn taken(words: &[u64; 10]) -> Cursor
 fn put(words: &mut [u64; 10], c: Cursor, reads: u64)
     ensures { λ _. ⌜ now (words .exit) ≡ putOf (now (words .entry)) c reads ⌝ }
 {
-    let masks = c.masks;
-    let prefix = c.prefix;
-    words[0] = masks[0];
-    words[1] = masks[1];
-    words[2] = masks[2];
-    words[3] = masks[3];
-    words[5] = prefix[0] as u64;
-    words[6] = prefix[1] as u64;
-    words[7] = prefix[2] as u64;
-    words[9] = reads;
+    let m = c.masks;
+    let p = c.prefix;
+    let w4 = words[4];
+    let w8 = words[8];
+    *words = [
+        m[0],
+        m[1],
+        m[2],
+        m[3],
+        w4,
+        p[0] as u64,
+        p[1] as u64,
+        p[2] as u64,
+        w8,
+        reads,
+    ];
 }
 
 fn moved(a: Next) -> Step
