@@ -1,6 +1,6 @@
 //! Times the port and the unchanged crate beside each other. Each row is one piece of work done by both sides, taking turns; the figures
 //! are medians over the rounds, and both sides' sums of answers must agree.
-use hibitset::BitSet;
+use hibitset::{BitIter, BitSet, BitSetLike};
 use std::hint::black_box;
 use std::time::Instant;
 
@@ -10,12 +10,21 @@ struct Answer {
     value: u64,
 }
 
+#[repr(C)]
+struct Step {
+    which: u64,
+    value: u64,
+}
+
 extern "C" {
     fn fen_contains(store: *const u64, len: usize, id: u32) -> Answer;
     fn fen_add(store: *mut u64, len: usize, id: u32) -> Answer;
     fn fen_remove(store: *mut u64, len: usize, id: u32) -> Answer;
     fn fen_add_list(store: *mut u64, len: usize, ids: *const u32, count: usize) -> Answer;
     fn fen_first_free(store: *const u64, len: usize) -> Answer;
+    fn fen_start(store: *const u64, len: usize, cursor: *mut [u64; 10]) -> Step;
+    fn fen_next(store: *const u64, len: usize, cursor: *mut [u64; 10], budget: u64) -> Step;
+    fn fen_fill(store: *const u64, len: usize, cursor: *mut [u64; 10], budget: u64, out: *mut u32, room: usize) -> Step;
 }
 
 /// A store of capacity n, opened by hand.
@@ -48,6 +57,41 @@ impl Store {
     fn first_free(&self) -> u64 {
         unsafe { fen_first_free(self.0.as_ptr(), self.0.len()).refusal }
     }
+
+    fn start(&self) -> [u64; 10] {
+        let mut cursor = [0; 10];
+        assert!(unsafe { fen_start(self.0.as_ptr(), self.0.len(), &mut cursor) }.which == 2);
+        cursor
+    }
+
+    /// The sum of all ids, a member a call.
+    fn next_sum(&self) -> u64 {
+        let (mut cursor, mut sum) = (self.start(), 0);
+        loop {
+            let step = unsafe { fen_next(self.0.as_ptr(), self.0.len(), &mut cursor, 4) };
+            match step.which {
+                1 => sum += step.value,
+                3 => return sum,
+                _ => panic!("next: {} {}", step.which, step.value),
+            }
+        }
+    }
+
+    /// The sum of all ids, up to 256 members a call.
+    fn fill_sum(&self) -> u64 {
+        let (mut cursor, mut sum, mut out) = (self.start(), 0, [0; 256]);
+        loop {
+            let step = unsafe {
+                fen_fill(self.0.as_ptr(), self.0.len(), &mut cursor, u64::MAX, out.as_mut_ptr(), out.len())
+            };
+            sum += out[..step.value as usize].iter().map(|&id| u64::from(id)).sum::<u64>();
+            match step.which {
+                1 => {}
+                3 => return sum,
+                _ => panic!("fill: {} {}", step.which, step.value),
+            }
+        }
+    }
 }
 
 #[inline(never)]
@@ -68,6 +112,27 @@ fn rust_remove(set: &mut BitSet, id: u32) -> bool {
 #[inline(never)]
 fn rust_full(set: &BitSet) -> u64 {
     set.layer0_as_slice().iter().position(|&w| w != usize::MAX).map_or(12, |_| 0)
+}
+
+#[inline(never)]
+fn rust_next(walk: &mut BitIter<&BitSet>) -> Option<u32> {
+    walk.next()
+}
+
+fn rust_next_sum(set: &BitSet) -> u64 {
+    let (mut walk, mut sum) = (set.iter(), 0);
+    while let Some(id) = rust_next(&mut walk) {
+        sum += u64::from(id);
+    }
+    sum
+}
+
+fn rust_loop_sum(set: &BitSet) -> u64 {
+    let mut sum = 0;
+    for id in set {
+        sum += u64::from(id);
+    }
+    sum
 }
 
 struct Random(u64);
@@ -205,6 +270,27 @@ fn points(table: &Table, r: &mut Random, n: usize, kind: &str) {
     );
 }
 
+/// Whole walks, a member a call and many; small sets are walked often enough for a time to be read.
+fn walks(table: &Table, r: &mut Random, n: usize, kind: &str) {
+    let all = members(r, n, kind);
+    let (mut set, mut store) = (BitSet::with_capacity(n as u32 - 1), Store::new(n));
+    for &id in &all {
+        set.add(id);
+    }
+    store.add_list(&all);
+    let times = (1 << 18) / all.len() + 1;
+    table.row(
+        "next", n, kind, times * all.len(),
+        Box::new(|| timed(|| (0..times).map(|_| rust_next_sum(black_box(&set))).sum())),
+        Box::new(|| timed(|| (0..times).map(|_| store.next_sum()).sum())),
+    );
+    table.row(
+        "fill 256", n, kind, times * all.len(),
+        Box::new(|| timed(|| (0..times).map(|_| rust_loop_sum(black_box(&set))).sum())),
+        Box::new(|| timed(|| (0..times).map(|_| store.fill_sum()).sum())),
+    );
+}
+
 /// The search for a free id over a full store, beside the search for a word that is not full.
 fn free(table: &Table, n: usize) {
     let all: Vec<u32> = (0..n as u32).collect();
@@ -228,6 +314,7 @@ fn main() {
     for n in [262_144, 16_777_216] {
         for kind in ["1 in 4,096", "1 in 64", "1 in 2", "runs"] {
             points(&table, &mut Random(1), n, kind);
+            walks(&table, &mut Random(1), n, kind);
         }
         free(&table, n);
     }

@@ -1,20 +1,29 @@
 -- What each way out of the public calls answers is what the definition answers there.
 use mathlib.Core.Bool.{false, true}
 use mathlib.Core.List.{List}
-use mathlib.Core.Path.{_≡_, sym, ap, _∙_}
+use mathlib.Core.Path.{_≡_, refl, sym, ap, _∙_}
 use Prim.Native.Nat.{ℕ, suc}
 use native.Mathlib.Omega.{arith}
 use lib.ListN.{getD}
-use Rattle.util.specs.Outcome.{Settled, settled}
+use Rattle.util.specs.Outcome.{Settled, settled, settles}
 use Rattle.store.specs.Layout.{top, isStore, StoreOf}
 use Rattle.store.specs.Word.{word}
 use Rattle.store.proofs.Geometry.{is-store, end-top, room-falls}
 use Rattle.store.proofs.Words.{word-in}
+use Rattle.iter.specs.declared.Batch.{Batch}
 use Rattle.iter.specs.declared.Cursor.{Cursor}
 use Rattle.iter.specs.declared.Next.the-variants.{Paused}
 use Rattle.iter.specs.declared.Step.{Step}
 use Rattle.iter.specs.Calls.{stepPaper, written, refused, fits, startIn, nextIn}
+use Rattle.iter.specs.Fill.{Filled, batch, batchPaper, filled}
 use Rattle.iter.specs.Walk.{startAt, next}
+
+-- a step or a batch that meets a call's promise is the definition's: the paper reads it back
+pub the-step : (a : Step) {r : Step} → Settled stepPaper (written a) r tt → r ≡ a
+the-step a h = settles h (record { answer = refl; memory = refl }) .0
+
+pub the-batch : (f : Filled) (out : List ℕ) {r : Batch} {x : List ℕ} → Settled batchPaper (filled f out) r x → r ≡ batch f
+the-batch f out h = settles h (record { answer = refl; memory = refl }) .0
 
 -- a step that the definition answers
 pub answered : {a r : Step} → r ≡ a → Settled stepPaper (written a) r tt

@@ -53,7 +53,7 @@ use Rattle.reader.specs.declared.BitIter.{BitIter}
 use Rattle.iter.specs.declared.Cursor.{Cursor}
 use Rattle.reader.specs.declared.Told.{Told}
 use Rattle.iter.specs.declared.Step.{Step}
-use Rattle.reader.proofs.Settle.{the-step}
+use Rattle.iter.proofs.Answers.{the-step}
 use Rattle.reader.proofs.BitIter as T
 use Rattle.reader.proofs.BitIter.Laws as T′
 use Rattle.iter.proofs.Cursor as Cu

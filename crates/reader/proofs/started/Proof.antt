@@ -5,7 +5,7 @@ use denote.Ref.{now}
 use Rattle.iter.specs.declared.Step.{Step}
 use Rattle.iter.specs.Calls.{startIn}
 use Rattle.reader.specs.Readers.{zero}
-use Rattle.reader.proofs.Settle.{the-step}
+use Rattle.iter.proofs.Answers.{the-step}
 use Rattle.reader.proofs.started.Statement.{statement}
 use Rattle.reader.proofs.started.Tie as tie
 

@@ -1,0 +1,83 @@
+-- The walk as a C caller has it: a cursor is lent as ten words, and an answer is two numbers. Every definition here computes.
+use mathlib.Core.Bool.{cond, _&&_}
+use mathlib.Core.List.{List, [], _∷_}
+use Prim.Native.Nat.{ℕ}
+use lib.Dec.{ltb, eqb}
+use lib.ListN.{length, getD}
+use Rattle.iter.specs.declared.Cursor.{Cursor}
+use Rattle.iter.specs.declared.Next.{Next}
+use Rattle.iter.specs.declared.Next.the-variants.{Member, Paused, End, Refused}
+use Rattle.iter.specs.declared.Step.{Step as Stepped}
+use Rattle.iter.specs.declared.Stop.{Stop}
+use Rattle.iter.specs.declared.Stop.the-variants.{Full, Paused as StopPaused, End as StopEnd, Refused as StopRefused}
+use Rattle.iter.specs.Calls.{startIn, nextIn}
+use Rattle.iter.specs.Fill.{Filled, filled, fillIn}
+use Rattle.export.specs.declared.Step.{Step}
+
+-- ---- the ten words: masks in words 0 to 3, prefixes in words 5 to 7, the reads of the last call in word 9. Words 4 and 8 are room for a
+-- fifth layer.
+
+-- "A cursor holds four masks and three prefixes", and a prefix is a 32-bit number. Where a word is none, refusal 7 is due; three times 1,
+-- which is no multiple of 64, stands for that.
+unfoldable pub prefixesOf : ℕ → ℕ → ℕ → List ℕ
+prefixesOf a b c = cond (ltb a 4294967296 && (ltb b 4294967296 && ltb c 4294967296)) (a ∷ b ∷ c ∷ []) (1 ∷ 1 ∷ 1 ∷ [])
+
+unfoldable pub cursorOf : List ℕ → Cursor
+cursorOf l = record {
+  masks = getD l 0 0 ∷ getD l 1 0 ∷ getD l 2 0 ∷ getD l 3 0 ∷ [];
+  prefix = prefixesOf (getD l 5 0) (getD l 6 0) (getD l 7 0);
+}
+
+-- a cursor and its reads written to the words l; words 4 and 8 stay as they are
+unfoldable pub putOf : List ℕ → Cursor → ℕ → List ℕ
+putOf l c r =
+    let m = c .masks in
+    let p = c .prefix in
+    getD m 0 0 ∷ getD m 1 0 ∷ getD m 2 0 ∷ getD m 3 0 ∷ getD l 4 0 ∷ getD p 0 0 ∷ getD p 1 0 ∷ getD p 2 0 ∷ getD l 8 0 ∷ r ∷ []
+
+-- ---- answers: "Each returns its number and zeros elsewhere and changes nothing lent; a refused next hands back its cursor as given."
+
+-- 0 and the refusal's number, 1 and the member, 2 for paused, 3 for the end
+abbrev pub stepOf : Next → Step
+stepOf (Refused n) = record { which = 0; value = n }
+stepOf (Member v) = record { which = 1; value = v }
+stepOf Paused = record { which = 2; value = 0 }
+stepOf End = record { which = 3; value = 0 }
+
+-- 0 and the refusal's number; 1 for full, 2 for paused, 3 for the end, and how many members
+abbrev pub stopOf : Stop → ℕ → Step
+stopOf (StopRefused n) k = record { which = 0; value = n }
+stopOf Full k = record { which = 1; value = k }
+stopOf StopPaused k = record { which = 2; value = k }
+stopOf StopEnd k = record { which = 3; value = k }
+
+-- the words l at exit: as they were where the call is refused, else the cursor and the reads
+abbrev pub leftOf : Step → List ℕ → Cursor → ℕ → List ℕ
+leftOf a l c r = cond (eqb (a .which) 0) l (putOf l c r)
+
+-- ---- the calls on a store s and the words l: what is answered, the words at exit, and `out` at exit
+
+abbrev pub startedOf : List ℕ → List ℕ → Stepped
+startedOf s l = startIn s (cursorOf l)
+
+abbrev pub steppedOf : List ℕ → List ℕ → ℕ → Stepped
+steppedOf s l b = nextIn s (cursorOf l) b
+
+abbrev pub movedOf : Stepped → Step
+movedOf a = stepOf (a .answer)
+
+abbrev pub wordsOf : Stepped → List ℕ → List ℕ
+wordsOf a l = leftOf (movedOf a) l (a .cursor) (a .reads)
+
+abbrev pub filledOf : List ℕ → List ℕ → ℕ → List ℕ → Filled
+filledOf s l b out = fillIn s (cursorOf l) b (length out)
+
+abbrev pub stoppedOf : Filled → Step
+stoppedOf f = stopOf (f .stop) (length (f .ids))
+
+abbrev pub fillWordsOf : Filled → List ℕ → List ℕ
+fillWordsOf f l = leftOf (stoppedOf f) l (f .cursor) (f .reads)
+
+-- "as many members as `out` holds or the budget allows .. unused places of `out` unchanged"
+abbrev pub outOf : Filled → List ℕ → List ℕ
+outOf f out = filled f out .lent
