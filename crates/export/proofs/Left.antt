@@ -5,7 +5,8 @@ use Prim.Native.Nat.{ℕ}
 use borrow.Author.Tests.{eq-eqb, ne-eqb}
 use Rattle.iter.specs.declared.Cursor.{Cursor}
 use Rattle.export.specs.declared.Step.{Step}
-use Rattle.export.specs.Walk.{putOf, leftOf}
+use Rattle.words.specs.Ten.{putOf}
+use Rattle.export.specs.Walk.{leftOf}
 
 abbrev kind : Step → ℕ
 kind a = a .which

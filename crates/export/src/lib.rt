@@ -3,8 +3,7 @@ ghost use mathlib.Core.Path.{_≡_};
 ghost use Rattle.bitset.specs.Calls.{containsOf, addOf, removeOf, addListOf};
 ghost use Rattle.free.specs.Calls.{firstFreeOf};
 ghost use Rattle.export.specs.Abi.{answerOf, toldOf};
-ghost use Rattle.export.specs.Walk.{prefixesOf, cursorOf, putOf, stepOf, stopOf, leftOf, startedOf, steppedOf, movedOf, wordsOf, filledOf, stoppedOf, fillWordsOf, outOf};
-use iter::Cursor;
+ghost use Rattle.export.specs.Walk.{stepOf, stopOf, leftOf, startedOf, steppedOf, movedOf, wordsOf, filledOf, stoppedOf, fillWordsOf, outOf};
 use iter::Next;
 use iter::Stop;
 use said::Said;
@@ -71,53 +70,6 @@ pub struct Step {
     pub value: u64,
 }
 
-// Three prefix words. Where one is no 32-bit number they are no prefixes, and neither are three times 1.
-fn prefixes(a: u64, b: u64, c: u64) -> [u32; 3]
-    ensures { λ r. ⌜ r ≡ prefixesOf a b c ⌝ }
-{
-    if a < 4294967296 {
-        if b < 4294967296 {
-            if c < 4294967296 {
-                return [a as u32, b as u32, c as u32];
-            }
-        }
-    }
-    [1; 3]
-}
-
-// The cursor that ten words hold: masks in words 0 to 3, prefixes in words 5 to 7.
-fn taken(words: &[u64; 10]) -> Cursor
-    ensures { λ r. ⌜ r ≡ cursorOf (now (words .entry)) ⌝ }
-{
-    let prefix = prefixes(words[5], words[6], words[7]);
-    Cursor {
-        masks: [words[0], words[1], words[2], words[3]],
-        prefix,
-    }
-}
-
-// A cursor and the reads written to its words. Words 4 and 8 are room for a fifth layer and stay.
-fn put(words: &mut [u64; 10], c: Cursor, reads: u64)
-    ensures { λ _. ⌜ now (words .exit) ≡ putOf (now (words .entry)) c reads ⌝ }
-{
-    let m = c.masks;
-    let p = c.prefix;
-    let w4 = words[4];
-    let w8 = words[8];
-    *words = [
-        m[0],
-        m[1],
-        m[2],
-        m[3],
-        w4,
-        p[0] as u64,
-        p[1] as u64,
-        p[2] as u64,
-        w8,
-        reads,
-    ];
-}
-
 fn moved(a: Next) -> Step
     ensures { λ r. ⌜ r ≡ stepOf a ⌝ }
 {
@@ -169,7 +121,7 @@ fn told_step(words: &mut [u64; 10], s: iter::Step) -> Step
         return a;
     }
     let c = s.cursor;
-    put(words, c, s.reads);
+    words::put(words, c, s.reads);
     a
 }
 
@@ -184,7 +136,7 @@ fn told_batch(words: &mut [u64; 10], b: iter::Batch) -> Step
         return a;
     }
     let c = b.cursor;
-    put(words, c, b.reads);
+    words::put(words, c, b.reads);
     a
 }
 
@@ -193,7 +145,7 @@ pub extern "C" fn fen_start(store: &[u64], cursor: &mut [u64; 10]) -> Step
     ensures { λ r. ⌜ r ≡ movedOf (startedOf (now (store .entry)) (now (cursor .entry))) ⌝ }
     ensures { λ r. ⌜ now (cursor .exit) ≡ wordsOf (startedOf (now (store .entry)) (now (cursor .entry))) (now (cursor .entry)) ⌝ }
 {
-    let c = taken(cursor);
+    let c = words::taken(cursor);
     let s = c.start(store);
     told_step(cursor, s)
 }
@@ -203,7 +155,14 @@ pub extern "C" fn fen_next(store: &[u64], cursor: &mut [u64; 10], budget: u64) -
     ensures { λ r. ⌜ r ≡ movedOf (steppedOf (now (store .entry)) (now (cursor .entry)) budget) ⌝ }
     ensures { λ r. ⌜ now (cursor .exit) ≡ wordsOf (steppedOf (now (store .entry)) (now (cursor .entry)) budget) (now (cursor .entry)) ⌝ }
 {
-    let c = taken(cursor);
+    let h = words::quick(store, cursor);
+    if h.some {
+        return Step {
+            which: 1,
+            value: h.id,
+        };
+    }
+    let c = words::taken(cursor);
     let s = c.next(store, budget);
     told_step(cursor, s)
 }
@@ -219,7 +178,7 @@ pub extern "C" fn fen_fill(
     ensures { λ r. ⌜ now (cursor .exit) ≡ fillWordsOf (filledOf (now (store .entry)) (now (cursor .entry)) budget (now (out .entry))) (now (cursor .entry)) ⌝ }
     ensures { λ r. ⌜ now (out .exit) ≡ outOf (filledOf (now (store .entry)) (now (cursor .entry)) budget (now (out .entry))) (now (out .entry)) ⌝ }
 {
-    let c = taken(cursor);
+    let c = words::taken(cursor);
     let b = c.fill(store, budget, out);
     told_batch(cursor, b)
 }

@@ -9,8 +9,7 @@ use lib.Dec.{eqb, leb, ltb}
 use lib.ListN.{length, getD, set}
 use borrow.Rule.Slice.PartMut.{midOf, putMid}
 use Rattle.util.proofs.Same.{both}
-use Rattle.util.specs.Outcome.{Settled, settles}
-use Rattle.iter.specs.Calls.{stepPaper, written, startIn, nextIn}
+use Rattle.iter.specs.Calls.{startIn, nextIn}
 use Rattle.iter.specs.declared.Cursor.{Cursor}
 use Rattle.iter.specs.declared.Next.{Next}
 use Rattle.iter.specs.declared.Step.{Step}
@@ -77,9 +76,6 @@ put-all l c e1 e2 e3 e4 ex e5 ey e6 ez e7 =
     (e4 ∙ ap (u 3 (getD (c .masks) 3 0)) (e3 ∙ ap (u 2 (getD (c .masks) 2 0)) (e2 ∙ ap (u 1 (getD (c .masks) 1 0)) e1))) ex) ey) ez
 
 -- ---- the step
-
-pub the-step : (a : Step) {r : Step} → Settled stepPaper (written a) r tt → r ≡ a
-the-step a h = settles h (record { answer = refl; memory = refl }) .0
 
 module _ (desk : List ℕ) (w c s b : ℕ) where
   pub walk-start : w ≡ startWord → walkOf desk w c s b ≡ startIn (partOf desk s) (cursorOf (partOf desk c))

@@ -8,7 +8,8 @@ use Rattle.iter.specs.declared.Batch.{Batch}
 use Rattle.iter.specs.declared.Cursor.{Cursor}
 use Rattle.iter.specs.Fill.{Filled, batch, fillIn}
 use Rattle.iter.proofs.Answers.{the-batch}
-use Rattle.export.specs.Walk.{cursorOf, stopOf, leftOf, outOf}
+use Rattle.words.specs.Ten.{cursorOf}
+use Rattle.export.specs.Walk.{stopOf, leftOf, outOf}
 use Rattle.export.proofs.fen_fill.Statement.{statement}
 use Rattle.export.proofs.fen_fill.Tie as tie
 

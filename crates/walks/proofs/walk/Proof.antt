@@ -4,10 +4,11 @@ use mathlib.Core.List.{List}
 use mathlib.Core.Path.{_≡_, sym, ap, ap₂, subst, _∙_}
 use Prim.Native.Nat.{ℕ}
 use Rattle.iter.specs.Calls.{startIn, nextIn}
+use Rattle.iter.proofs.Answers.{the-step}
 use Rattle.iter.specs.declared.Cursor.{Cursor}
 use Rattle.desk.specs.Slots.{partOf}
 use Rattle.walks.specs.Calls.{isCursor, cursorOf}
-use Rattle.walks.proofs.Arms.{the-step, walk-start, walk-next}
+use Rattle.walks.proofs.Arms.{walk-start, walk-next}
 use borrow.Author.Needs.{needs}
 use Rattle.walks.proofs.walk.Statement.{statement}
 use Rattle.walks.proofs.walk.Tie as tie

@@ -1,10 +1,10 @@
--- `export::prefixes` meets its contract. Assumes nothing.
+-- `words::prefixes` meets its contract. Assumes nothing.
 use mathlib.Core.Path.{sym}
 use borrow.Author.Needs.{needs}
 use borrow.Author.Tests.{lt-ltb, le-ltb}
-use Rattle.export.specs.Walk.{prefixesOf}
-use Rattle.export.proofs.prefixes.Statement.{statement}
-use Rattle.export.proofs.prefixes.Tie as tie
+use Rattle.words.specs.Ten.{prefixesOf}
+use Rattle.words.proofs.prefixes.Statement.{statement}
+use Rattle.words.proofs.prefixes.Tie as tie
 
 cast-t7 : tie.Need-cast-t7
 cast-t7 c = search needs

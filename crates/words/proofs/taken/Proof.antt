@@ -1,12 +1,12 @@
--- `export::taken` meets its contract. Assumes nothing.
+-- `words::taken` meets its contract. Assumes nothing.
 use mathlib.Core.List.{List, _∷_, []}
 use mathlib.Core.Path.{ap}
 use Prim.Native.Nat.{ℕ}
 use borrow.Author.Needs.{needs}
 use lib.ListN.{getD}
-use Rattle.export.specs.Walk.{cursorOf}
-use Rattle.export.proofs.taken.Statement.{statement}
-use Rattle.export.proofs.taken.Tie as tie
+use Rattle.words.specs.Ten.{cursorOf}
+use Rattle.words.proofs.taken.Statement.{statement}
+use Rattle.words.proofs.taken.Tie as tie
 
 element-copy-out-prefixes : tie.Need-element-copy-out-prefixes
 element-copy-out-prefixes c = search needs

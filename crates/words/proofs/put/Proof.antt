@@ -1,9 +1,9 @@
--- `export::put` meets its contract. Assumes nothing.
+-- `words::put` meets its contract. Assumes nothing.
 use mathlib.Core.Path.{refl}
 use borrow.Author.Needs.{needs}
-use Rattle.export.specs.Walk.{putOf}
-use Rattle.export.proofs.put.Statement.{statement}
-use Rattle.export.proofs.put.Tie as tie
+use Rattle.words.specs.Ten.{putOf}
+use Rattle.words.proofs.put.Statement.{statement}
+use Rattle.words.proofs.put.Tie as tie
 
 element-copy-out-w4 : tie.Need-element-copy-out-w4
 element-copy-out-w4 c = search needs
