@@ -13,8 +13,8 @@ use Rattle.iter.specs.declared.Step.{Step}
 use Rattle.iter.specs.Under.{allIds, allReads}
 use Rattle.iter.specs.Walk.{Kind, kind, paused as before, more, byKind, startAt, descend, next, Run, onward, runBy, walk}
 use Rattle.iter.specs.Walk.Kind.{gives, reads, done}
-use Rattle.iter.proofs.Cursors.{Wf, start-wf}
-use Rattle.iter.proofs.Rest.{rest, cost, gone, moved-next, walk-whole, start-rest, start-cost}
+use Rattle.demand.proofs.Taken.{Wf, start-wf}
+use Rattle.demand.proofs.Rest.{rest, cost, gone, moved-next, walk-whole, start-rest, start-cost}
 use Rattle.demand.specs.Walks.{Bounded, Some, Kept}
 use Rattle.demand.specs.Walks.Kept.{member, paused, ended}
 

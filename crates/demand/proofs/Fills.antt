@@ -20,9 +20,10 @@ use Rattle.iter.specs.Fill.{Filled, goOn, fillFrom}
 use Rattle.iter.specs.Under.{allIds, allReads}
 use Rattle.iter.specs.Walk.{startAt, next, Run}
 use Rattle.iter.proofs.Answers.{start-is}
-use Rattle.iter.proofs.Cursors.{Wf, fit-of, start-wf, start-fine}
+use Rattle.iter.proofs.Cursors.{fit-of}
+use Rattle.demand.proofs.Taken.{Wf, start-wf, start-fine}
 use Rattle.iter.proofs.Fills.{fill-runs}
-use Rattle.iter.proofs.Rest.{rest, cost, Moves, gone, Moved, moved-next, start-rest, start-cost}
+use Rattle.demand.proofs.Rest.{rest, cost, Moves, gone, Moved, moved-next, start-rest, start-cost}
 use Rattle.demand.specs.Fills.{Stopped, Ask, Some, Keeps, onward, fillsBy, AllStopped, fillAt, fillOn, fillsOn}
 use Rattle.demand.specs.Fills.Stopped.{full, paused, ended}
 use Rattle.demand.specs.Walks.{Bounded, Kept}

@@ -16,7 +16,8 @@ use Rattle.iter.specs.declared.Next.{Next}
 use Rattle.iter.specs.declared.Next.the-variants.{Member, Paused, End}
 use Rattle.iter.specs.declared.Step.{Step}
 use Rattle.iter.specs.Walk.{lowLayer, firstBit, prefixAt, placeAt, cleared, less, handed, more, startAt, descend, next}
-use Rattle.iter.proofs.Cursors.{Low, low-found, prefix-top, Wf, taken-mask, taken-prefix, taken-mask-up, taken-mask-else, taken-prefix-else, taken-wf, handed-wf, start-wf, start-mask, start-below}
+use Rattle.iter.proofs.Cursors.{Low, low-found, prefix-top}
+use Rattle.demand.proofs.Taken.{Wf, taken-mask, taken-prefix, taken-mask-up, taken-mask-else, taken-prefix-else, taken-wf, handed-wf, start-wf, start-mask, start-below}
 use Rattle.iter.proofs.Turns.{next-gives, next-done, next-paused, next-reads}
 use Rattle.demand.specs.Walks.{Bounded, Full, spacedBy, Spaced}
 use Rattle.demand.proofs.Members.{bit-place}

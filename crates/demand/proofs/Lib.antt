@@ -1,3 +1,5 @@
+pub mod Taken
+pub mod Rest
 pub mod Ends
 pub mod Prefixes
 pub mod Members

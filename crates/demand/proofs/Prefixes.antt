@@ -12,7 +12,8 @@ use Rattle.iter.specs.declared.Step.{Step}
 use Rattle.iter.specs.Calls.{Fine}
 use Rattle.iter.specs.Walk.{lowLayer, kindOf, kind, placeAt, handed, paused, more, byKind, descend, next}
 use Rattle.iter.specs.Walk.Kind.{reads, done}
-use Rattle.iter.proofs.Cursors.{Low, low-found, Wf, bit-in, fine-taken, taken-wf}
+use Rattle.iter.proofs.Cursors.{Low, low-found, fine-taken}
+use Rattle.demand.proofs.Taken.{Wf, bit-in, taken-wf}
 use Rattle.demand.specs.Walks.{Bounded}
 
 module _ (lw : ℕ → ℕ → ℕ) (bounded : Bounded lw) (t : ℕ) where

@@ -22,8 +22,9 @@ use Rattle.iter.specs.Calls.{Fine, startIn}
 use Rattle.iter.specs.Under.{allIds, allReads}
 use Rattle.iter.specs.Walk.{startAt, next, Run, onward, runBy, walk}
 use Rattle.iter.proofs.Answers.{start-is, next-runs}
-use Rattle.iter.proofs.Cursors.{Wf, fit-of, start-wf, start-fine}
-use Rattle.iter.proofs.Rest.{moved-next}
+use Rattle.iter.proofs.Cursors.{fit-of}
+use Rattle.demand.proofs.Taken.{Wf, start-wf, start-fine}
+use Rattle.demand.proofs.Rest.{moved-next}
 use Rattle.demand.specs.Walks.{onAt, Clear, Full, Some, Kept, AllKept, spacedBy, Spaced, nextOn, walkOn}
 use Rattle.demand.proofs.Ends.{next-kept, walk-ends, walk-all}
 use Rattle.demand.proofs.Gaps.{spaced}

@@ -1,5 +1,5 @@
 -- Cursors: the lowest layer with a mask, prefixes that pass the test, and what a step leaves in each layer.
-use mathlib.Core.Bool.{Bool, true, false, cond, _&&_}
+use mathlib.Core.Bool.{Bool, true, false, cond, _&&_, true≢false}
 use mathlib.Core.List.{List}
 use mathlib.Core.Logic.{_≢_, ⊎-elim}
 use mathlib.Core.Path.{_≡_, refl, sym, ap, ap₂, _∙_, subst}
@@ -7,18 +7,17 @@ use Prim.Native.Nat.{ℕ, zero, suc, _+_, _-_, _*_, _%_, _^_, _≤_, _<_}
 use native.Mathlib.Decide.{ℕ-discrete, decLt}
 use native.Mathlib.Nat.{le-of-suc-le-suc, eq-or-lt-of-le, one-le-pow, pow-suc, pow-le-pow-right, lt-of-lt-of-le}
 use native.Mathlib.Omega.{arith}
-use borrow.Author.Tests.{lt-ltb, le-ltb, eq-eqb, ne-eqb, eqb-true, eqb-false, ltb-true}
+use borrow.Author.Tests.{lt-ltb, le-ltb, eq-eqb, ne-eqb, eqb-true, eqb-false, ltb-true, ltb-false}
 use lib.Dec.{ltb, eqb}
 use lib.ListN.{length, getD, set, length-set, replicate, length-replicate}
 use lib.Seq.{getD-set-same, getD-set-other, set-out}
 use Rattle.util.proofs.Places.{lowest}
 use Rattle.util.proofs.Same.{both}
-use Rattle.store.specs.Layout.{top}
-use Rattle.store.specs.Word.{word}
 use Rattle.iter.specs.declared.Cursor.{Cursor}
 use Rattle.iter.specs.Calls.{prefixesFit, Fine}
-use Rattle.iter.specs.Steps.{Bit, Placed, Descended}
-use Rattle.iter.specs.Walk.{lowFrom, firstBit, prefixAt, placeAt, cleared, less, handed, taken, startAt}
+use Rattle.iter.specs.Steps.{isReading, Descended}
+use Rattle.iter.specs.Walk.{lowFrom, lowLayer, kindOf, kind, firstBit, prefixAt, placeAt, taken, handled}
+use Rattle.iter.specs.Walk.Kind.{gives, reads, done}
 
 -- ---- the lowest layer with a mask that is not 0
 
@@ -74,9 +73,33 @@ low-is {ms} {n} a = low-one a (low-found ms 0 n)
 pub low-at : {ms : List ℕ} {n l : ℕ} → l ≡ lowFrom ms 0 n → Low ms 0 n l
 low-at {ms} {n} e = subst (Low ms 0 n) (sym e) (low-found ms 0 n)
 
--- the layer found has a bit
-pub bit-at : {t l : ℕ} {c : Cursor} → Fine t (c .prefix) → Low (c .masks) 0 (suc t) l → l < suc t → Bit t c l
-bit-at f low h = record { fine = f; layer = omega arith; some = low .found (omega arith) }
+-- ---- whether a word has to be read
+
+pub reading-low : (t : ℕ) (c : Cursor) → isReading (kind t c) ≡ true → (0 < lowLayer t c) × (lowLayer t c < suc t)
+reading-low t c e = go (lowLayer t c) e
+  where
+    below : (j : ℕ) (b : Bool) → ltb j t ≡ b → isReading (cond b (reads j) done) ≡ true → (0 < suc j) × (suc j < suc t)
+    below j true e h = (omega arith, omega (arith, ltb-true j t e))
+    below j false e h = absurd (true≢false (sym h))
+
+    go : (l : ℕ) → isReading (kindOf t l) ≡ true → (0 < l) × (l < suc t)
+    go zero h = absurd (true≢false (sym h))
+    go (suc j) h = below j (ltb j t) refl h
+
+-- layer 0 is then empty
+pub reading-zero : (t : ℕ) (c : Cursor) → isReading (kind t c) ≡ true → getD (c .masks) 0 0 ≡ 0
+reading-zero t c e = low-found (c .masks) 0 (suc t) .empty 0 (omega arith) (reading-low t c e .0)
+
+pub resting-low : (t : ℕ) (c : Cursor) → isReading (kind t c) ≡ false → getD (c .masks) 0 0 ≡ 0 → lowLayer t c ≡ suc t
+resting-low t c e z = go (lowLayer t c) (low-found (c .masks) 0 (suc t)) e
+  where
+    past : (j : ℕ) (b : Bool) → ltb j t ≡ b → suc j ≤ suc t → isReading (cond b (reads j) done) ≡ false → suc j ≡ suc t
+    past j true e l h = absurd (true≢false h)
+    past j false e l h = omega (arith, ltb-false j t e)
+
+    go : (l : ℕ) → Low (c .masks) 0 (suc t) l → isReading (kindOf t l) ≡ false → l ≡ suc t
+    go zero low h = absurd (omega (arith, low .found (omega arith)))
+    go (suc j) low h = past j (ltb j t) refl (omega (arith, low .last)) h
 
 -- ---- prefixes
 
@@ -88,7 +111,7 @@ pub prefix-top : (t : ℕ) (ps : List ℕ) (k : ℕ) → t ≤ k → prefixAt t 
 unfolding prefixAt
 prefix-top t ps k h = rw (le-ltb k t h)
 
-prefix-same : (t : ℕ) (ps qs : List ℕ) (k : ℕ) → getD qs k 0 ≡ getD ps k 0 → prefixAt t qs k ≡ prefixAt t ps k
+pub prefix-same : (t : ℕ) (ps qs : List ℕ) (k : ℕ) → getD qs k 0 ≡ getD ps k 0 → prefixAt t qs k ≡ prefixAt t ps k
 unfolding prefixAt
 prefix-same t ps qs k e = ap (λ (x : ℕ). cond (ltb k t) x 0) e
 
@@ -135,27 +158,12 @@ fine-place t ps k b f h l =
     (place-lt (getD ps k 0) b (t - k) (f k q .0) (subst (λ (x : ℕ). getD ps k 0 < 64 ^ x) e (f k q .1)) l)))
     (eq-or-lt-of-le h)
 
--- the place of layer k's lowest bit
-pub placed-top : {t k : ℕ} {c : Cursor} → Bit t c k → (q : ℕ) → k ≡ t → q ≡ firstBit c k → q < 64 → Placed t c k q
+-- an id has 32 bits
+pub id-small : (c : Cursor) {q : ℕ} → Fine 3 (c .prefix) → getD (c .masks) 0 0 ≢ 0 → (q ≡ placeAt 3 c 0) × (0 < getD (c .masks) 0 0 → firstBit c 0 < 64) → q < 4294967296
 unfolding placeAt
-placed-top {t} {k} {c} b q e is small =
-    let z = prefix-top t (c .prefix) k (omega arith) in
-    record { here = omega (arith, z, is); below = omega (arith, z, fine-place t (c .prefix) k q (b .fine) (b .layer) small) }
+id-small c f some placed = omega (arith, placed .0, fine-place 3 (c .prefix) 0 (firstBit c 0) f (omega arith) (placed .1 (omega (arith, some))))
 
-pub placed-below : {t k : ℕ} {c : Cursor} → Bit t c k → (q : ℕ) → k ≢ t → q ≡ firstBit c k → q < 64 → Placed t c k (getD (c .prefix) k 0 + q)
-unfolding placeAt
-placed-below {t} {k} {c} b q e is small =
-    let z = prefix-below t (c .prefix) k (omega (arith, b .layer)) in
-    record { here = omega (arith, z, is); below = omega (arith, z, fine-place t (c .prefix) k q (b .fine) (b .layer) small) }
-
--- it is a number below 64 ^ (t + 1), and above layer 0 below 64 ^ t
-pub placed-small : {t k q : ℕ} {c : Cursor} → Placed t c k q → (q < 64 ^ suc t) × (0 < k → q < 64 ^ t)
-placed-small p = (
-  lt-of-lt-of-le (p .below) (pow-le-pow-right (omega arith) (omega arith)),
-  λ h. lt-of-lt-of-le (p .below) (pow-le-pow-right (omega arith) (omega arith)),
-)
-
--- and makes a fine prefix of the layer below
+-- a place makes a fine prefix of the layer below
 prefix-lt : (q n : ℕ) → q < 64 ^ n → (q * 64 % 64 ≡ 0) × (q * 64 < 64 ^ suc n)
 prefix-lt q n h = omega (arith, pow-suc 64 n)
 
@@ -178,107 +186,34 @@ fine-taken t c j w f h b =
     fine-set t (c .prefix) j (prefixAt t (c .prefix) (suc j) + firstBit c (suc j)) f h
     (subst (λ (x : ℕ). prefixAt t (c .prefix) (suc j) + firstBit c (suc j) < 64 ^ x) e (fine-place t (c .prefix) (suc j) (firstBit c (suc j)) f (omega arith) b))
 
--- the cursor as the code makes it, by the number of the upper layer
-taken-at : (c : Cursor) (k q m w : ℕ) → 0 < k → m ≡ cleared c k
-    → _≡_ {A = Cursor} (record { masks = set (set (c .masks) k m) (k - 1) w; prefix = set (c .prefix) (k - 1) (q * 64) }) (taken c (k - 1) q w)
-unfolding taken less
-taken-at c k q m w h e =
-    let i : k ≡ suc (k - 1) = omega arith in
-    ap (λ (x : ℕ). record { masks = set (set (c .masks) k x) (k - 1) w; prefix = set (c .prefix) (k - 1) (q * 64) }) e
-    ∙ ap (λ (x : ℕ). record { masks = set (less c x) (k - 1) w; prefix = set (c .prefix) (k - 1) (q * 64) }) i
+-- the place of a bit of layer j + 1 is far below 2 ^ 26: a prefix and a bit are below 64 ^ (t + 1)
+pub handled-is : (c : Cursor) (j w : ℕ) → Fine 3 (c .prefix) → j < 3 → firstBit c (suc j) < 64 → handled j w c ≡ taken c j (placeAt 3 c (suc j)) w
+unfolding placeAt
+handled-is c j w f h b =
+    let l = fine-place 3 (c .prefix) (suc j) (firstBit c (suc j)) f (omega arith) b in
+    let i : 4 - suc j ≤ 3 = omega arith in
+    let m : 64 ^ (4 - suc j) ≤ 64 ^ 3 = pow-le-pow-right (omega arith) i in
+    let e : placeAt 3 c (suc j) % 67108864 ≡ placeAt 3 c (suc j) = omega (arith, l, m) in
+    ap (λ (x : ℕ). taken c j x w) e
 
-pub descended : {N : ℕ} {s : List ℕ} {c : Cursor} {k : ℕ} → Bit (top N) c k → 0 < k → {q m w : ℕ} → Placed (top N) c k q → m ≡ cleared c k → w ≡ word N s (k - 1) q
-    → Descended N s c k (record { masks = set (set (c .masks) k m) (k - 1) w; prefix = set (c .prefix) (k - 1) (q * 64) })
-descended {N} {s} {c} {k} b h {q} {m} {w} p m-is w-is =
-    let i : k ≡ suc (k - 1) = omega arith in
-    let f : suc (top N) - k ≡ top N - (k - 1) = omega arith in
-    let q-is : q ≡ placeAt (top N) c (suc (k - 1)) = p .here ∙ ap (placeAt (top N) c) i in
+-- the word below the lowest bit of layer j + 1 read, as the code does it
+pub descended : {c d : Cursor} {j q w : ℕ} (layer : List ℕ) → Fine 3 (c .prefix) → j < 3 → 0 < getD (c .masks) (j + 1) 0
+    → (q ≡ placeAt 3 c ((j + 1) % 4)) × (0 < getD (c .masks) ((j + 1) % 4) 0 → firstBit c ((j + 1) % 4) < 64)
+    → w ≡ getD layer q 0 → d ≡ handled (j % 3) w c → Descended (λ (k i : ℕ). getD layer i 0) 3 j c d
+descended {c} {d} {j} {q} {w} layer f h some placed w-is d-is =
+    let m : (j + 1) % 4 ≡ suc j = omega arith in
+    let o : j % 3 ≡ j = omega arith in
+    let e : j + 1 ≡ suc j = omega arith in
+    let b : firstBit c (suc j) < 64 =
+    subst (λ (k : ℕ). 0 < getD (c .masks) k 0 → firstBit c k < 64) m (placed .1) (subst (λ (k : ℕ). 0 < getD (c .masks) k 0) e some) in
+    let q-is : q ≡ placeAt 3 c (suc j) = placed .0 ∙ ap (placeAt 3 c) m in
+    let is : d ≡ taken c j (placeAt 3 c (suc j)) (getD layer (placeAt 3 c (suc j)) 0) =
+    d-is ∙ ap (λ (k : ℕ). handled k w c) o ∙ handled-is c j w f h b ∙ ap (taken c j (placeAt 3 c (suc j))) (w-is ∙ ap (λ (x : ℕ). getD layer x 0) q-is) in
     record {
-      cursor = taken-at c k q m w h m-is ∙ ap₂ (taken c (k - 1)) q-is (w-is ∙ ap (word N s (k - 1)) q-is);
-      fine = fine-set (top N) (c .prefix) (k - 1) q (b .fine) (omega (arith, b .layer)) (subst (λ (x : ℕ). q < 64 ^ x) f (p .below));
+      cursor = is;
+      fine = subst (λ (x : Cursor). Fine 3 (x .prefix)) (sym is) (fine-taken 3 c j (getD layer (placeAt 3 c (suc j)) 0) f h b);
     }
 
--- ---- cursors over the layers 0 to t
-
-pub record Wf (t : ℕ) (c : Cursor) : Type 0 where
-  pub masked : t < length (c .masks)
-  pub prefixed : t ≤ length (c .prefix)
-  pub words : (k : ℕ) → getD (c .masks) k 0 < 2 ^ 64
-
--- the lowest bit of a mask is one of 64
-pub bit-in : {t : ℕ} {c : Cursor} → Wf t c → (k : ℕ) → 0 < getD (c .masks) k 0 → firstBit c k < 64
-bit-in {c = c} wf k pos = lowest (getD (c .masks) k 0) (wf .words k) pos .inside
-
--- words stay words where one is written
-words-set : (l : List ℕ) (i v : ℕ) → i < length l → v < 2 ^ 64 → ((k : ℕ) → getD l k 0 < 2 ^ 64) → (k : ℕ) → getD (set l i v) k 0 < 2 ^ 64
-words-set l i v n h g k = go (ℕ-discrete k i)
-  where
-    go : Dec (k ≡ i) → getD (set l i v) k 0 < 2 ^ 64
-    go (yes e) = subst (λ (x : ℕ). x < 2 ^ 64) (sym (ap (λ (x : ℕ). getD (set l i v) x 0) e ∙ getD-set-same l i v 0 n)) h
-    go (no e) = subst (λ (x : ℕ). x < 2 ^ 64) (sym (getD-set-other l i k v 0 e)) (g k)
-
--- what taking a bit of layer j + 1 leaves in each layer
-module _ (t : ℕ) (c : Cursor) (j q w : ℕ) (wf : Wf t c) (h : j < t) where
-  length-less : length (less c (suc j)) ≡ length (c .masks)
-  unfolding less
-  length-less = length-set (c .masks) (suc j) (cleared c (suc j))
-
-  pub taken-mask : getD (taken c j q w .masks) j 0 ≡ w
-  unfolding taken
-  taken-mask = getD-set-same (less c (suc j)) j w 0 (omega (arith, length-less, wf .masked))
-
-  pub taken-prefix : prefixAt t (taken c j q w .prefix) j ≡ q * 64
-  unfolding taken
-  taken-prefix = prefix-below t (taken c j q w .prefix) j h ∙ getD-set-same (c .prefix) j (q * 64) 0 (omega (arith, wf .prefixed))
-
-  pub taken-mask-up : getD (taken c j q w .masks) (suc j) 0 ≡ cleared c (suc j)
-  unfolding taken less
-  taken-mask-up = getD-set-other (less c (suc j)) j (suc j) w 0 (omega arith) ∙ getD-set-same (c .masks) (suc j) (cleared c (suc j)) 0 (omega (arith, wf .masked))
-
-  pub taken-mask-else : (k : ℕ) → k ≢ j → k ≢ suc j → getD (taken c j q w .masks) k 0 ≡ getD (c .masks) k 0
-  unfolding taken less
-  taken-mask-else k a b = getD-set-other (less c (suc j)) j k w 0 a ∙ getD-set-other (c .masks) (suc j) k (cleared c (suc j)) 0 b
-
-  pub taken-prefix-else : (k : ℕ) → k ≢ j → prefixAt t (taken c j q w .prefix) k ≡ prefixAt t (c .prefix) k
-  unfolding taken
-  taken-prefix-else k a = prefix-same t (c .prefix) (taken c j q w .prefix) k (getD-set-other (c .prefix) j k (q * 64) 0 a)
-
-  pub taken-wf : w < 2 ^ 64 → Wf t (taken c j q w)
-  unfolding taken less
-  taken-wf b = record {
-    masked = omega (arith, length-set (less c (suc j)) j w, length-less, wf .masked);
-    prefixed = omega (arith, length-set (c .prefix) j (q * 64), wf .prefixed);
-    words = words-set (less c (suc j)) j w (omega (arith, length-less, wf .masked)) b
-        (words-set (c .masks) (suc j) (cleared c (suc j)) (omega (arith, wf .masked)) (omega (arith, wf .words (suc j))) (wf .words));
-  }
-
-pub handed-wf : (t : ℕ) (c : Cursor) → Wf t c → Wf t (handed c)
-unfolding handed less
-handed-wf t c wf = record {
-  masked = omega (arith, length-set (c .masks) 0 (cleared c 0), wf .masked);
-  prefixed = wf .prefixed;
-  words = words-set (c .masks) 0 (cleared c 0) (omega (arith, wf .masked)) (omega (arith, wf .words 0)) (wf .words);
-}
-
--- ---- from the start
-
-zeros-at : (n k : ℕ) → getD {A = ℕ} (replicate n 0) k 0 ≡ 0
-zeros-at zero k = refl
-zeros-at (suc n) zero = refl
-zeros-at (suc n) (suc k) = zeros-at n k
-
-pub start-wf : (t w : ℕ) → w < 2 ^ 64 → Wf t (startAt t w)
-start-wf t w h = record {
-  masked = omega (arith, length-set (replicate (suc t) 0) t w, length-replicate {A = ℕ} (suc t) 0);
-  prefixed = omega (arith, length-replicate {A = ℕ} t 0);
-  words = words-set (replicate (suc t) 0) t w (omega (arith, length-replicate {A = ℕ} (suc t) 0)) h (λ k. omega (arith, zeros-at (suc t) k));
-}
-
-pub start-fine : (t w : ℕ) → Fine t (startAt t w .prefix)
-start-fine t w k h = subst (λ (x : ℕ). (x % 64 ≡ 0) × (x < 64 ^ (suc t - k))) (sym (zeros-at t k)) (refl, one-le-pow (suc t - k) 64 (omega arith))
-
-pub start-mask : (t w : ℕ) → getD (startAt t w .masks) t 0 ≡ w
-start-mask t w = getD-set-same (replicate (suc t) 0) t w 0 (omega (arith, length-replicate {A = ℕ} (suc t) 0))
-
-pub start-below : (t w k : ℕ) → k < t → getD (startAt t w .masks) k 0 ≡ 0
-start-below t w k h = getD-set-other (replicate (suc t) 0) t k w 0 (omega arith) ∙ zeros-at (suc t) k
+-- the same by the lowest layer
+pub descended-at : {lw : ℕ → ℕ → ℕ} {t j : ℕ} {c d : Cursor} → lowLayer t c ≡ suc j → Descended lw t j c d → Descended lw t (lowLayer t c - 1) c d
+descended-at {lw} {t} {j} {c} {d} e h = let i : j ≡ lowLayer t c - 1 = omega (arith, e) in subst (λ (k : ℕ). Descended lw t k c d) i h

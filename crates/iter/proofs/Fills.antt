@@ -1,7 +1,7 @@
 -- What a fill does, by the lowest layer with a mask; and the turns and ends of its loop.
-use mathlib.Core.Bool.{false, true}
+use mathlib.Core.Bool.{Bool, false, true, true≢false}
 use mathlib.Core.List.{List, [], _∷_, _++_, append-assoc, append-nil}
-use mathlib.Core.Logic.{_≢_}
+use mathlib.Core.Logic.{_≢_, ⊎-elim}
 use mathlib.Core.Path.{_≡_, refl, sym, ap, ap₂, _∙_, subst}
 use Prim.Native.Nat.{ℕ, zero, suc, _+_, _-_, _≤_, _<_}
 use native.Mathlib.Nat.{add-assoc, add-zero, zero-add}
@@ -9,9 +9,10 @@ use native.Mathlib.Omega.{arith}
 use lib.ListN.{length, getD, set, drop, length-append, length-set}
 use lib.Seq.{drop-cons, set-at}
 use Rattle.util.specs.Outcome.{Outcome, Settled, settled}
-use Rattle.store.specs.Layout.{top, cap, isStore, StoreOf}
+use Rattle.store.specs.Layout.{top, cap, isStore, capacityOf, StoreOf}
 use Rattle.store.specs.Word.{word}
 use Rattle.store.proofs.Geometry.{is-store}
+use Rattle.layers.specs.Calls.{layerPart}
 use Rattle.iter.specs.declared.Batch.{Batch}
 use Rattle.iter.specs.declared.Cursor.{Cursor}
 use Rattle.iter.specs.declared.Next.{Next}
@@ -21,17 +22,19 @@ use Rattle.iter.specs.declared.Stop.{Stop}
 use Rattle.iter.specs.declared.Stop.the-variants.{Full, Paused as StopPaused, End as StopEnd, Refused as StopRefused}
 use Rattle.iter.specs.Calls.{Fine, fits}
 use Rattle.iter.specs.Fill.{Filled, after, stopped, goOn, fillFrom, batchPaper, filled, fillIn}
-use Rattle.iter.specs.Steps.{Filling}
-use Rattle.iter.specs.Walk.{placeAt, handed, descend, next}
-use Rattle.iter.proofs.Cursors.{Low}
-use Rattle.iter.proofs.Turns.{next-gives, next-done, next-paused, next-reads}
+use Rattle.iter.specs.Steps.{refusalOf, parts, isReading, restOf, Going, Filling}
+use Rattle.iter.specs.Walk.{Kind, lowLayer, kind, placeAt, handed, more, next}
+use Rattle.iter.specs.Walk.Kind.{gives, reads, done}
+use Rattle.iter.proofs.Cursors.{Low, low-found, low-stop, low-at, reading-low, resting-low}
+use Rattle.iter.proofs.Turns.{next-gives, next-done, next-paused, next-same}
+use Rattle.iter.proofs.Answers.{was-refused, lent-words}
 
--- one read more before a call's answer
-go-more : (o : Next) (r : ℕ) (c : Cursor) (f : Cursor → Filled) → goOn o (1 + r) c f ≡ after [] 1 (goOn o r c f)
-go-more (Member v) r c f = ap (λ (x : ℕ). record { ids = v ∷ f c .ids; reads = x; cursor = f c .cursor; stop = f c .stop }) (add-assoc 1 r (f c .reads))
-go-more Paused r c f = refl
-go-more End r c f = refl
-go-more (Refused n) r c f = refl
+-- k reads more before a call's answer
+go-more : (k : ℕ) (o : Next) (r : ℕ) (c : Cursor) (f : Cursor → Filled) → goOn o (k + r) c f ≡ after [] k (goOn o r c f)
+go-more k (Member v) r c f = ap (λ (x : ℕ). record { ids = v ∷ f c .ids; reads = x; cursor = f c .cursor; stop = f c .stop }) (add-assoc k r (f c .reads))
+go-more k Paused r c f = refl
+go-more k End r c f = refl
+go-more k (Refused n) r c f = refl
 
 after-after : (l m : List ℕ) (r s : ℕ) (f : Filled) → after l r (after m s f) ≡ after (l ++ m) (r + s) f
 after-after l m r s f =
@@ -50,18 +53,32 @@ module _ (lw : ℕ → ℕ → ℕ) (t : ℕ) (c : Cursor) (m : ℕ) where
   fill-done : Low (c .masks) 0 (suc t) (suc t) → (b : ℕ) → fillFrom lw t (suc m) b c ≡ stopped StopEnd 0 c
   fill-done low b = by-answer b _ (next-done lw t c low b)
 
-  module _ (j : ℕ) (h : j < t) (low : Low (c .masks) 0 (suc t) (suc j)) where
-    fill-paused : fillFrom lw t (suc m) 0 c ≡ stopped StopPaused 0 c
-    fill-paused = by-answer 0 _ (next-paused lw t c j h low)
+  fill-paused : isReading (kind t c) ≡ true → fillFrom lw t (suc m) 0 c ≡ stopped StopPaused 0 c
+  fill-paused want =
+      let e = reading-low t c want in
+      let i : lowLayer t c ≡ suc (lowLayer t c - 1) = omega (arith, e) in
+      by-answer 0 _ (next-paused lw t c (lowLayer t c - 1) (omega (arith, e)) (subst (Low (c .masks) 0 (suc t)) i (low-found (c .masks) 0 (suc t))))
 
-    fill-reads : (b : ℕ) → fillFrom lw t (suc m) (suc b) c ≡ after [] 1 (fillFrom lw t (suc m) b (descend lw t j c))
-    unfolding fillFrom
-    fill-reads b =
-        let a = next lw t b (descend lw t j c) in
-        let e : suc b - (1 + a .reads) ≡ b - a .reads = omega arith in
-        by-answer (suc b) _ (next-reads lw t c j h low b)
-        ∙ ap (λ (x : ℕ). goOn (a .answer) (1 + a .reads) (a .cursor) (fillFrom lw t m x)) e
-        ∙ go-more (a .answer) (a .reads) (a .cursor) (fillFrom lw t m (b - a .reads))
+  -- what is left once k words are read
+  fill-sunk : (b k : ℕ) (d : Cursor) → k ≤ b → next lw t b c ≡ more k (next lw t (b - k) d) → fillFrom lw t (suc m) b c ≡ after [] k (fillFrom lw t (suc m) (b - k) d)
+  unfolding fillFrom
+  fill-sunk b k d h same =
+      let a = next lw t (b - k) d in
+      let e : b - (k + a .reads) ≡ (b - k) - a .reads = omega arith in
+      by-answer b _ same
+      ∙ ap (λ (x : ℕ). goOn (a .answer) (k + a .reads) (a .cursor) (fillFrom lw t m x)) e
+      ∙ go-more k (a .answer) (a .reads) (a .cursor) (fillFrom lw t m ((b - k) - a .reads))
+
+-- why it rests, by the kind
+pub rest-paused : (x : Kind) → isReading x ≡ true → restOf x ≡ StopPaused
+rest-paused gives e = absurd (true≢false (sym e))
+rest-paused (reads j) e = refl
+rest-paused done e = absurd (true≢false (sym e))
+
+pub rest-end : (x : Kind) → isReading x ≡ false → restOf x ≡ StopEnd
+rest-end gives e = refl
+rest-end (reads j) e = absurd (true≢false e)
+rest-end done e = refl
 
 -- ---- the loop
 
@@ -104,14 +121,26 @@ module _ {lw : ℕ → ℕ → ℕ} {t b : ℕ} {c₀ : Cursor} {out₀ : List �
     room : length out₀ - k ≡ suc (length out₀ - suc k)
     room = omega (arith, g .long)
 
-    pub fill-end : Low (c .masks) 0 (suc t) (suc t)
-        → Settled batchPaper (filled (fillFrom lw t (length out₀) b c₀) out₀) (record { cursor = c; reads = r; count = k; stop = StopEnd }) out
-    fill-end low = ends StopEnd (ap (λ (n : ℕ). fillFrom lw t n (b - r) c) room ∙ fill-done lw t c (length out₀ - suc k) low (b - r))
+    -- no member is at hand: nothing is left, or a word is wanted and the budget is spent
+    pub fill-rest : getD (c .masks) 0 0 ≡ 0 → (isReading (kind t c) ≡ true → r ≡ b)
+        → Settled batchPaper (filled (fillFrom lw t (length out₀) b c₀) out₀) (record { cursor = c; reads = r; count = k; stop = restOf (kind t c) }) out
+    fill-rest z p = go (isReading (kind t c)) refl
+      where
+        go : (x : Bool) → isReading (kind t c) ≡ x
+            → Settled batchPaper (filled (fillFrom lw t (length out₀) b c₀) out₀) (record { cursor = c; reads = r; count = k; stop = restOf (kind t c) }) out
+        go true e =
+            let n : b - r ≡ 0 = omega (arith, p e) in
+            subst (λ (x : Stop). Settled batchPaper (filled (fillFrom lw t (length out₀) b c₀) out₀) (record { cursor = c; reads = r; count = k; stop = x }) out) (sym (rest-paused (kind t c) e))
+            (ends StopPaused (ap₂ (λ (x y : ℕ). fillFrom lw t x y c) room n ∙ fill-paused lw t c (length out₀ - suc k) e))
+        go false e =
+            subst (λ (x : Stop). Settled batchPaper (filled (fillFrom lw t (length out₀) b c₀) out₀) (record { cursor = c; reads = r; count = k; stop = x }) out) (sym (rest-end (kind t c) e))
+            (ends StopEnd (ap (λ (n : ℕ). fillFrom lw t n (b - r) c) room ∙ fill-done lw t c (length out₀ - suc k) (low-at (sym (resting-low t c e z))) (b - r)))
 
     -- a member written
-    pub fill-again : Low (c .masks) 0 (suc t) 0 → (d : Cursor) (v : ℕ) → d ≡ handed c → v ≡ placeAt t c 0 → Filling lw t b c₀ out₀ d r (k + 1) (set out k v)
+    pub fill-again : getD (c .masks) 0 0 ≢ 0 → (d : Cursor) (v : ℕ) → d ≡ handed c → v ≡ placeAt t c 0 → Filling lw t b c₀ out₀ d r (k + 1) (set out k v)
     unfolding handed
-    fill-again low d v d-is v-is =
+    fill-again some d v d-is v-is =
+        let low = low-at (sym (low-stop (c .masks) 0 t some)) in
         let m : length out₀ - suc k ≡ length out₀ - (k + 1) = omega arith in
         let s : suc k ≡ k + 1 = omega arith in
         let l : k < length out₀ = omega (arith, g .long) in
@@ -133,34 +162,45 @@ module _ {lw : ℕ → ℕ → ℕ} {t b : ℕ} {c₀ : Cursor} {out₀ : List �
               ∙ ap₂ (λ (n : ℕ) (x : Cursor). after (g .ids ++ (v ∷ [])) r (fillFrom lw t n (b - r) x)) m (sym d-is);
         }
 
-    module _ {l : ℕ} (low : Low (c .masks) 0 (suc t) l) (some : 0 < l) (le : l < suc t) where
-      below : Low (c .masks) 0 (suc t) (suc (l - 1))
-      below = let e : l ≡ suc (l - 1) = omega arith in subst (Low (c .masks) 0 (suc t)) e low
+    -- words read
+    pub fill-down : {d : Cursor} {n : ℕ} → Going lw t b r c d n → Filling lw t b c₀ out₀ d n k out
+    fill-down {d} {n} w =
+        let x : (b - r) - (n - r) ≡ b - n = omega (arith, w .from, w .spent) in
+        let y : r + (n - r) ≡ n = omega (arith, w .from) in
+        let m = length out₀ - suc k in
+        record {
+          spent = w .spent;
+          fine = w .fine;
+          long = g .long;
+          ids = g .ids;
+          counted = g .counted;
+          inside = g .inside;
+          here = g .here;
+          same = g .same
+              ∙ ap (after (g .ids) r) (ap (λ (z : ℕ). fillFrom lw t z (b - r) c) room
+              ∙ fill-sunk lw t c m (b - r) (n - r) d (omega (arith, w .spent)) (w .same ∙ ap (λ (z : ℕ). more (n - r) (next lw t z d)) (sym x)))
+              ∙ after-after (g .ids) [] r (n - r) (fillFrom lw t (suc m) ((b - r) - (n - r)) d)
+              ∙ ap₂ (λ (l : List ℕ) (z : ℕ). after l z (fillFrom lw t (suc m) ((b - r) - (n - r)) d)) (append-nil (g .ids)) y
+              ∙ ap₂ (λ (u z : ℕ). after (g .ids) n (fillFrom lw t u z d)) (sym room) x;
+        }
 
-      pub fill-pause : r ≡ b → Settled batchPaper (filled (fillFrom lw t (length out₀) b c₀) out₀) (record { cursor = c; reads = r; count = k; stop = StopPaused }) out
-      fill-pause e =
-          let z : b - r ≡ 0 = omega arith in
-          ends StopPaused (ap₂ (λ (n d : ℕ). fillFrom lw t n d c) room z ∙ fill-paused lw t c (length out₀ - suc k) (l - 1) (omega arith) below)
+-- ---- layer words that agree below the top make the same fill
 
-      -- a word read
-      pub fill-down : r ≢ b → (d : Cursor) → d ≡ descend lw t (l - 1) c → Fine t (d .prefix) → Filling lw t b c₀ out₀ d (r + 1) k out
-      fill-down n d d-is f =
-          let e : b - r ≡ suc (b - (r + 1)) = omega (arith, g .spent, n) in
-          let y = descend lw t (l - 1) c in
-          record {
-            spent = omega (arith, g .spent, n);
-            fine = f;
-            long = g .long;
-            ids = g .ids;
-            counted = g .counted;
-            inside = g .inside;
-            here = g .here;
-            same = g .same
-                ∙ ap (after (g .ids) r) (ap₂ (λ (x z : ℕ). fillFrom lw t x z c) room e ∙ fill-reads lw t c (length out₀ - suc k) (l - 1) (omega arith) below (b - (r + 1)))
-                ∙ after-after (g .ids) [] r 1 (fillFrom lw t (suc (length out₀ - suc k)) (b - (r + 1)) y)
-                ∙ ap (λ (x : List ℕ). after x (r + 1) (fillFrom lw t (suc (length out₀ - suc k)) (b - (r + 1)) y)) (append-nil (g .ids))
-                ∙ ap₂ (λ (x : ℕ) (z : Cursor). after (g .ids) (r + 1) (fillFrom lw t x (b - (r + 1)) z)) (sym room) (sym d-is);
-          }
+module _ (lw lw′ : ℕ → ℕ → ℕ) (t : ℕ) (same : (k i : ℕ) → k < t → lw k i ≡ lw′ k i) where
+  pub fill-same : (m b : ℕ) (c : Cursor) → fillFrom lw t m b c ≡ fillFrom lw′ t m b c
+  unfolding fillFrom
+  fill-same zero b c = refl
+  fill-same (suc m) b c =
+      let a = next lw′ t b c in
+      ap (λ (x : Step). goOn (x .answer) (x .reads) (x .cursor) (fillFrom lw t m (b - x .reads))) (next-same lw lw′ t same b c)
+      ∙ on (a .answer) (a .reads) (a .cursor) (fill-same m (b - a .reads) (a .cursor))
+    where
+      on : (o : Next) (r : ℕ) (d : Cursor) → fillFrom lw t m (b - r) d ≡ fillFrom lw′ t m (b - r) d
+          → goOn o r d (fillFrom lw t m (b - r)) ≡ goOn o r d (fillFrom lw′ t m (b - r))
+      on (Member v) r d e = ap (after (v ∷ []) r) e
+      on Paused r d e = refl
+      on End r d e = refl
+      on (Refused n) r d e = refl
 
 -- ---- the call
 
@@ -177,10 +217,28 @@ module _ {N : ℕ} {s : List ℕ} (z : StoreOf N s) (c : Cursor) where
   unfolding fillIn
   fill-runs b m h = sym (rw (is-store z, z .names, h))
 
--- a refusal, and a fill, that the definition answers
-pub fill-refused : {e : Stop} {c : Cursor} {f : Filled} {out : List ℕ} → stopped e 0 c ≡ f
-    → Settled batchPaper (filled f out) (record { cursor = c; reads = 0; count = 0; stop = e }) out
-fill-refused {out = out} h = settled (ap (λ (x : Filled). filled x out) (sym h))
+  -- over the layers that are lent on
+  pub fill-lent : {l2 l1 l0 : List ℕ} → l2 ≡ layerPart s 2 → l1 ≡ layerPart s 1 → l0 ≡ layerPart s 0 → fits 3 c ≡ true → (b m : ℕ)
+      → fillFrom (parts (l0 ∷ l1 ∷ l2 ∷ [])) 3 m b c ≡ fillIn s c b m
+  unfolding top
+  fill-lent {l2} {l1} {l0} e2 e1 e0 h b m = fill-same (parts (l0 ∷ l1 ∷ l2 ∷ [])) (word N s) 3 (lent-words z e2 e1 e0) m b c ∙ fill-runs b m h
 
+-- a refusal, by the number that was found
+pub fill-refused : (s : List ℕ) {N n : ℕ} (c : Cursor) (b : ℕ) (out : List ℕ) {r : Batch} → N ≡ capacityOf s → n ≡ refusalOf N (fits 3 c) → n ≢ 0
+    → r ≡ record { cursor = c; reads = 0; count = 0; stop = StopRefused n } → Settled batchPaper (filled (fillIn s c b (length out)) out) r out
+unfolding top
+fill-refused s {n = n} c b out e f h is =
+    let m = length out in
+    let w : stopped (StopRefused n) 0 c ≡ fillIn s c b m =
+    ⊎-elim
+    (λ (p : (isStore s ≡ false) × (n ≡ 2)). ap (λ (x : ℕ). stopped (StopRefused x) 0 c) (p .1) ∙ fill-2 s c b m (p .0))
+    (λ (p : StoreOf _ s × (fits 3 c ≡ false) × (n ≡ 7)). ap (λ (x : ℕ). stopped (StopRefused x) 0 c) (p .2) ∙ fill-7 (p .0) c b m (p .1))
+    (was-refused s c e f h) in
+    settled (ap (λ (x : Filled). filled x out) (sym w) ∙ ap (λ (x : Batch). record { numbers = batchPaper .numbers x; lent = out }) (sym is))
+
+-- a fill that the definition answers
 pub fill-answered : {a f : Filled} (out : List ℕ) {x : List ℕ} {r : Batch} → a ≡ f → Settled batchPaper (filled a out) r x → Settled batchPaper (filled f out) r x
 fill-answered out {x = x} {r = r} h s = subst (λ (y : Filled). Settled batchPaper (filled y out) r x) h s
+
+pub as-batch : {o : Outcome (List ℕ)} {r q : Batch} {x : List ℕ} → r ≡ q → Settled batchPaper o q x → Settled batchPaper o r x
+as-batch {o} {x = x} e s = subst (λ (y : Batch). Settled batchPaper o y x) (sym e) s

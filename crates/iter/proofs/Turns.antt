@@ -1,20 +1,22 @@
 -- What next does, by the lowest layer with a mask; and the turns and ends of a loop that has made r reads of a budget b.
-use mathlib.Core.Bool.{Bool, cond}
+use mathlib.Core.Bool.{Bool, true, false, cond}
 use mathlib.Core.Logic.{_≢_}
-use mathlib.Core.Path.{_≡_, sym, ap, ap₂, _∙_, subst}
-use Prim.Native.Nat.{ℕ, zero, suc, _+_, _-_, _<_}
+use mathlib.Core.Path.{_≡_, refl, sym, ap, ap₂, _∙_, subst}
+use Prim.Native.Nat.{ℕ, zero, suc, _+_, _-_, _≤_, _<_}
 use native.Mathlib.Nat.{add-assoc, add-zero, zero-add}
 use native.Mathlib.Omega.{arith}
-use borrow.Author.Tests.{lt-ltb, le-ltb}
+use borrow.Author.Tests.{lt-ltb, le-ltb, ltb-true}
+use lib.Dec.{ltb}
+use lib.ListN.{getD}
 use Rattle.iter.specs.declared.Cursor.{Cursor}
 use Rattle.iter.specs.declared.Next.{Next}
 use Rattle.iter.specs.declared.Next.the-variants.{Member, Paused, End}
 use Rattle.iter.specs.declared.Step.{Step}
 use Rattle.iter.specs.Calls.{Fine}
-use Rattle.iter.specs.Steps.{Going}
-use Rattle.iter.specs.Walk.{kindOf, kind, placeAt, handed, member, paused, ended, more, byKind, descend, next}
+use Rattle.iter.specs.Steps.{isReading, Descended, Going}
+use Rattle.iter.specs.Walk.{Kind, lowLayer, kindOf, kind, placeAt, handed, taken, member, paused, ended, more, byKind, descend, next}
 use Rattle.iter.specs.Walk.Kind.{gives, reads, done}
-use Rattle.iter.proofs.Cursors.{Low, low-is}
+use Rattle.iter.proofs.Cursors.{Low, low-found, low-stop, low-is, low-at, reading-low, resting-low}
 
 module _ (t : ℕ) (c : Cursor) where
   kind-gives : Low (c .masks) 0 (suc t) 0 → kind t c ≡ gives
@@ -51,50 +53,96 @@ module _ (lw : ℕ → ℕ → ℕ) (t : ℕ) (c : Cursor) where
 more-more : (m n : ℕ) (a : Step) → more m (more n a) ≡ more (m + n) a
 more-more m n a = ap (λ (x : ℕ). record { cursor = a .cursor; reads = x; answer = a .answer }) (sym (add-assoc m n (a .reads)))
 
-more-none : (r : ℕ) (c : Cursor) (n : Next) → more r (record { cursor = c; reads = 0; answer = n }) ≡ record { cursor = c; reads = r; answer = n }
-more-none r c n = ap (λ (x : ℕ). record { cursor = c; reads = x; answer = n }) (add-zero r)
+more-zero : (a : Step) → more 0 a ≡ a
+more-zero a = ap (λ (x : ℕ). record { cursor = a .cursor; reads = x; answer = a .answer }) (zero-add (a .reads))
 
 -- at its start nothing has been read
-pub run-start : (lw : ℕ → ℕ → ℕ) (t b : ℕ) (c : Cursor) → Fine t (c .prefix) → Going lw t b c c 0
-run-start lw t b c f =
-    let z : b ≡ b - 0 = omega arith in
-    let a = next lw t (b - 0) c in
+pub run-start : (lw : ℕ → ℕ → ℕ) (t b r : ℕ) (c : Cursor) → r ≤ b → Fine t (c .prefix) → Going lw t b r c c r
+run-start lw t b r c h f =
+    let z : r - r ≡ 0 = omega arith in
+    record { from = omega arith; spent = h; fine = f; same = sym (ap (λ (x : ℕ). more x (next lw t (b - r) c)) z ∙ more-zero (next lw t (b - r) c)) }
+
+-- a word is wanted, and read
+pub run-again : {lw : ℕ → ℕ → ℕ} {t b r₀ : ℕ} {c₀ c d : Cursor} {r : ℕ} → Going lw t b r₀ c₀ c r → isReading (kind t c) ≡ true → r ≢ b
+    → Descended lw t (lowLayer t c - 1) c d → Going lw t b r₀ c₀ d (r + 1)
+run-again {lw} {t} {b} {r₀} {c₀} {c} {d} {r} g want n down =
+    let j = lowLayer t c - 1 in
+    let inner = reading-low t c want in
+    let l : lowLayer t c ≡ suc j = omega (arith, inner) in
+    let e : b - r ≡ suc (b - (r + 1)) = omega (arith, g .spent, n) in
+    let f : (r - r₀) + 1 ≡ (r + 1) - r₀ = omega (arith, g .from) in
+    let y = next lw t (b - (r + 1)) (descend lw t j c) in
     record {
-      spent = omega arith;
-      fine = f;
-      same = ap (λ (x : ℕ). next lw t x c) z ∙ ap (λ (x : ℕ). record { cursor = a .cursor; reads = x; answer = a .answer }) (sym (zero-add (a .reads)));
+      from = omega (arith, g .from);
+      spent = omega (arith, g .spent, n);
+      fine = down .fine;
+      same = g .same
+          ∙ ap (λ (x : ℕ). more (r - r₀) (next lw t x c)) e
+          ∙ ap (more (r - r₀)) (next-reads lw t c j (omega (arith, inner)) (subst (Low (c .masks) 0 (suc t)) l (low-found (c .masks) 0 (suc t))) (b - (r + 1)))
+          ∙ more-more (r - r₀) 1 y
+          ∙ ap₂ (λ (x : ℕ) (z : Cursor). more x (next lw t (b - (r + 1)) z)) f (sym (down .cursor));
     }
 
-module _ {lw : ℕ → ℕ → ℕ} {t b : ℕ} {c₀ c : Cursor} {r : ℕ} (g : Going lw t b c₀ c r) where
-  pub run-member : Low (c .masks) 0 (suc t) 0 → (d : Cursor) (v : ℕ) → d ≡ handed c → v ≡ placeAt t c 0
-      → record { cursor = d; reads = r; answer = Member v } ≡ next lw t b c₀
-  run-member low d v d-is v-is =
+-- where no word is read any more, the words and the budget do not matter
+pub next-still : (lw lw′ : ℕ → ℕ → ℕ) (t b : ℕ) (c : Cursor) → (isReading (kind t c) ≡ true → b ≡ 0) → next lw t b c ≡ next lw′ t 0 c
+unfolding next
+next-still lw lw′ t zero c h = refl
+next-still lw lw′ t (suc b) c h = go (kind t c) h
+  where
+    go : (k : Kind) → (isReading k ≡ true → suc b ≡ 0) → byKind t c (λ j. more 1 (next lw t b (descend lw t j c))) k ≡ byKind t c (λ j. paused c) k
+    go gives e = refl
+    go (reads j) e = absurd (omega (arith, e refl))
+    go done e = refl
+
+-- so next is what is answered there, after the reads
+pub run-done : {lw : ℕ → ℕ → ℕ} (lw′ : ℕ → ℕ → ℕ) {t b : ℕ} {c₀ c : Cursor} {r : ℕ} → Going lw t b 0 c₀ c r → (isReading (kind t c) ≡ true → r ≡ b)
+    → more r (next lw′ t 0 c) ≡ next lw t b c₀
+run-done {lw} lw′ {t} {b} {c₀} {c} {r} g h =
+    let e : b - 0 ≡ b = omega arith in
+    let f : r - 0 ≡ r = omega arith in
+    sym (ap (λ (x : ℕ). next lw t x c₀) (sym e) ∙ g .same
+    ∙ ap₂ more f (next-still lw lw′ t (b - r) c λ w. let z = h w in omega arith))
+
+-- what that is
+module _ (lw : ℕ → ℕ → ℕ) (t r : ℕ) (c : Cursor) where
+  more-none : (o : Next) (d : Cursor) → record { cursor = d; reads = r; answer = o } ≡ more r (record { cursor = d; reads = 0; answer = o })
+  more-none o d = ap (λ (x : ℕ). record { cursor = d; reads = x; answer = o }) (sym (add-zero r))
+
+  pub still-member : getD (c .masks) 0 0 ≢ 0 → {d : Cursor} {v : ℕ} → d ≡ handed c → v ≡ placeAt t c 0
+      → record { cursor = d; reads = r; answer = Member v } ≡ more r (next lw t 0 c)
+  still-member some d-is v-is =
       ap₂ (λ (x : Cursor) (y : ℕ). record { cursor = x; reads = r; answer = Member y }) d-is v-is
-      ∙ sym (g .same ∙ ap (more r) (next-gives lw t c low (b - r)) ∙ more-none r (handed c) (Member (placeAt t c 0)))
+      ∙ more-none (Member (placeAt t c 0)) (handed c) ∙ ap (more r) (sym (next-gives lw t c (low-at (sym (low-stop (c .masks) 0 t some))) 0))
 
-  pub run-end : Low (c .masks) 0 (suc t) (suc t) → record { cursor = c; reads = r; answer = End } ≡ next lw t b c₀
-  run-end low = sym (g .same ∙ ap (more r) (next-done lw t c low (b - r)) ∙ more-none r c End)
+  pub still-end : isReading (kind t c) ≡ false → getD (c .masks) 0 0 ≡ 0 → record { cursor = c; reads = r; answer = End } ≡ more r (next lw t 0 c)
+  still-end e z = more-none End c ∙ ap (more r) (sym (next-done lw t c (low-at (sym (resting-low t c e z))) 0))
 
-  module _ {l : ℕ} (low : Low (c .masks) 0 (suc t) l) (some : 0 < l) (h : l < suc t) where
-    below : Low (c .masks) 0 (suc t) (suc (l - 1))
-    below = let e : l ≡ suc (l - 1) = omega arith in subst (Low (c .masks) 0 (suc t)) e low
+  pub still-paused : isReading (kind t c) ≡ true → record { cursor = c; reads = r; answer = Paused } ≡ more r (next lw t 0 c)
+  still-paused want =
+      let inner = reading-low t c want in
+      let l : lowLayer t c ≡ suc (lowLayer t c - 1) = omega (arith, inner) in
+      more-none Paused c
+      ∙ ap (more r) (sym (next-paused lw t c (lowLayer t c - 1) (omega (arith, inner)) (subst (Low (c .masks) 0 (suc t)) l (low-found (c .masks) 0 (suc t)))))
 
-    pub run-paused : r ≡ b → record { cursor = c; reads = r; answer = Paused } ≡ next lw t b c₀
-    run-paused e =
-        let z : b - r ≡ 0 = omega arith in
-        sym (g .same ∙ ap (λ (x : ℕ). more r (next lw t x c)) z ∙ ap (more r) (next-paused lw t c (l - 1) (omega arith) below) ∙ more-none r c Paused)
+-- ---- layer words that agree below the top make the same walk
 
-    -- one turn
-    pub run-again : r ≢ b → (d : Cursor) → d ≡ descend lw t (l - 1) c → Fine t (d .prefix) → Going lw t b c₀ d (r + 1)
-    run-again n d d-is f =
-        let e : b - r ≡ suc (b - (r + 1)) = omega (arith, g .spent, n) in
-        let y = next lw t (b - (r + 1)) (descend lw t (l - 1) c) in
-        record {
-          spent = omega (arith, g .spent, n);
-          fine = f;
-          same = g .same
-              ∙ ap (λ (x : ℕ). more r (next lw t x c)) e
-              ∙ ap (more r) (next-reads lw t c (l - 1) (omega arith) below (b - (r + 1)))
-              ∙ more-more r 1 y
-              ∙ ap (λ (x : Cursor). more (r + 1) (next lw t (b - (r + 1)) x)) (sym d-is);
-        }
+-- what is done where a read is needed, twice, the same in each layer below the top
+by-kind : (t : ℕ) (c : Cursor) (f g : ℕ → Step) → ((j : ℕ) → j < t → f j ≡ g j) → byKind t c f (kind t c) ≡ byKind t c g (kind t c)
+by-kind t c f g same = go (lowLayer t c)
+  where
+    below : (j : ℕ) (x : Bool) → ltb j t ≡ x → byKind t c f (cond x (reads j) done) ≡ byKind t c g (cond x (reads j) done)
+    below j true e = same j (ltb-true j t e)
+    below j false e = refl
+
+    go : (l : ℕ) → byKind t c f (kindOf t l) ≡ byKind t c g (kindOf t l)
+    go zero = refl
+    go (suc j) = below j (ltb j t) refl
+
+module _ (lw lw′ : ℕ → ℕ → ℕ) (t : ℕ) (same : (k i : ℕ) → k < t → lw k i ≡ lw′ k i) where
+  pub next-same : (b : ℕ) (c : Cursor) → next lw t b c ≡ next lw′ t b c
+  unfolding next
+  next-same zero c = refl
+  next-same (suc b) c =
+      by-kind t c (λ j. more 1 (next lw t b (descend lw t j c))) (λ j. more 1 (next lw′ t b (descend lw′ t j c))) λ j h.
+      let q = placeAt t c (suc j) in
+      ap (λ (w : ℕ). more 1 (next lw t b (taken c j q w))) (same j q h) ∙ ap (more 1) (next-same b (taken c j q (lw′ j q)))

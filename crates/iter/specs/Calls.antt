@@ -115,3 +115,7 @@ startOf s c = written (startIn s c)
 
 abbrev pub nextOf : List ℕ → Cursor → ℕ → Outcome (Unit {0})
 nextOf s c b = written (nextIn s c b)
+
+-- the cursor of a walk that is started, for a caller with none
+abbrev pub startedOf : List ℕ → Cursor
+startedOf s = startIn s (startAt 3 0) .cursor

@@ -1,36 +1,55 @@
 -- What the private steps ask and leave.
-use mathlib.Core.List.{List, _++_}
+use mathlib.Core.Bool.{Bool, true, false, cond}
+use mathlib.Core.List.{List, [], _∷_, _++_}
 use mathlib.Core.Path.{_≡_}
-use Prim.Native.Nat.{ℕ, suc, _-_, _^_, _≤_, _<_}
+use Prim.Native.Nat.{ℕ, _-_, _≤_}
+use lib.Dec.{eqb}
 use lib.ListN.{length, getD, drop}
-use Rattle.store.specs.Layout.{top}
-use Rattle.store.specs.Word.{word}
 use Rattle.iter.specs.declared.Cursor.{Cursor}
+use Rattle.iter.specs.declared.Stop.{Stop}
+use Rattle.iter.specs.declared.Stop.the-variants.{Paused as StopPaused, End as StopEnd}
+use Rattle.iter.specs.declared.Sunk.{Sunk}
 use Rattle.iter.specs.Calls.{Fine}
 use Rattle.iter.specs.Fill.{after, fillFrom}
-use Rattle.iter.specs.Walk.{placeAt, more, descend, next}
+use Rattle.iter.specs.Walk.{Kind, kind, more, descend, next}
+use Rattle.iter.specs.Walk.Kind.{gives, reads, done}
 
--- layer k of a cursor over the layers 0 to t has a bit
-pub record Bit (t : ℕ) (c : Cursor) (k : ℕ) : Type 0 where
-  pub fine : Fine t (c .prefix)
-  pub layer : k ≤ t
-  pub some : 0 < getD (c .masks) k 0
+-- "All else 2 .., then rising": by the capacity, 0 where there is no store, and whether the prefixes fit
+unfoldable pub refusalOf : ℕ → Bool → ℕ
+refusalOf n fit = cond (eqb n 0) 2 (cond fit 0 7)
 
--- q is the place of the lowest
-pub record Placed (t : ℕ) (c : Cursor) (k q : ℕ) : Type 0 where
-  pub here : q ≡ placeAt t c k
-  pub below : q < 64 ^ (suc t - k)
+-- the words of layers that are lent as lists, the lowest first
+abbrev pub parts : List (List ℕ) → ℕ → ℕ → ℕ
+parts ls k i = getD (getD ls k []) i 0
 
--- the lowest bit of layer k was taken, and the word below it read
-pub record Descended (N : ℕ) (s : List ℕ) (c : Cursor) (k : ℕ) (d : Cursor) : Type 0 where
-  pub cursor : d ≡ descend (word N s) (top N) (k - 1) c
-  pub fine : Fine (top N) (d .prefix)
+-- a word has to be read
+abbrev pub isReading : Kind → Bool
+isReading gives = false
+isReading (reads j) = true
+isReading done = false
 
--- After r reads, next at the whole budget b from c₀ is next at what is left of it from c, with those reads before it.
-pub record Going (lw : ℕ → ℕ → ℕ) (t b : ℕ) (c₀ c : Cursor) (r : ℕ) : Type 0 where
+-- why no member is at hand
+abbrev pub restOf : Kind → Stop
+restOf gives = StopEnd
+restOf (reads j) = StopPaused
+restOf done = StopEnd
+
+-- the lowest bit of layer j + 1 was taken, and the word below it read
+pub record Descended (lw : ℕ → ℕ → ℕ) (t j : ℕ) (c d : Cursor) : Type 0 where
+  pub cursor : d ≡ descend lw t j c
+  pub fine : Fine t (d .prefix)
+
+-- Between r₀ and r reads of a budget b: next from c₀ is next from c, with the reads made since before it.
+pub record Going (lw : ℕ → ℕ → ℕ) (t b r₀ : ℕ) (c₀ c : Cursor) (r : ℕ) : Type 0 where
+  pub from : r₀ ≤ r
   pub spent : r ≤ b
   pub fine : Fine t (c .prefix)
-  pub same : next lw t b c₀ ≡ more r (next lw t (b - r) c)
+  pub same : next lw t (b - r₀) c₀ ≡ more (r - r₀) (next lw t (b - r) c)
+
+-- until no word is wanted or the budget is spent
+pub record Sank (lw : ℕ → ℕ → ℕ) (b r₀ : ℕ) (c : Cursor) (d : Sunk) : Type 0 where
+  pub going : Going lw 3 b r₀ c (d .cursor) (d .reads)
+  pub stopped : isReading (kind 3 (d .cursor)) ≡ true → d .reads ≡ b
 
 -- After k members and r reads, with `out` for out₀: what the fill must hand out is what stands in `out` and what is left to it.
 pub record Filling (lw : ℕ → ℕ → ℕ) (t b : ℕ) (c₀ : Cursor) (out₀ : List ℕ) (c : Cursor) (r k : ℕ) (out : List ℕ) : Type 0 where

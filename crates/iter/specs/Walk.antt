@@ -2,7 +2,7 @@
 -- instance of it. Document 01: "A cursor holds four masks and three prefixes, as `BitIter`." Layer k's mask and prefix stand at place k.
 use mathlib.Core.Bool.{Bool, true, false, cond}
 use mathlib.Core.List.{List, [], _∷_}
-use Prim.Native.Nat.{ℕ, zero, suc, _+_, _-_, _*_, _^_}
+use Prim.Native.Nat.{ℕ, zero, suc, _+_, _-_, _*_, _%_, _^_}
 use lib.Count.{trailingZeros}
 use lib.Dec.{ltb, eqb}
 use lib.ListN.{getD, set, replicate}
@@ -63,6 +63,10 @@ handed c = record { masks = less c 0; prefix = c .prefix }
 -- the lowest bit of layer j + 1, at place q, is taken, "and one word below is read": w
 unfoldable pub taken : Cursor → ℕ → ℕ → ℕ → Cursor
 taken c j q w = record { masks = set (less c (suc j)) j w; prefix = set (c .prefix) j (q * 64) }
+
+-- the same with the place counted modulo 2 ^ 26, as many as prefixes of 32 bits have: so it is said of every cursor
+abbrev pub handled : ℕ → ℕ → Cursor → Cursor
+handled j w c = taken c j (placeAt 3 c (suc j) % 67108864) w
 
 -- ---- answers
 

@@ -1,18 +1,16 @@
 // The walk of one store: the Rust's iter/mod.rs, `BitIter`, as a cursor by value whose calls hand it back.
-ghost use mathlib.Core.Bool.{_&&_};
+ghost use mathlib.Core.Bool.{true, _&&_};
 ghost use mathlib.Core.List.{[], _∷_};
 ghost use mathlib.Core.Path.{_≡_};
-ghost use Prim.Native.Nat.{_-_, _%_, _^_, _≤_, _<_};
+ghost use Prim.Native.Nat.{ℕ, _+_, _-_, _%_, _≤_, _<_};
 ghost use lib.Count.{trailingZeros};
 ghost use lib.Dec.{eqb, ltb};
 ghost use lib.ListN.{length, getD};
 ghost use Rattle.util.specs.Outcome.{Settled};
-ghost use Rattle.store.specs.Layout.{top, StoreOf};
-ghost use Rattle.store.specs.Word.{word};
-ghost use Rattle.iter.specs.Calls.{stepPaper, startOf, nextOf, prefixesFit, Fine};
+ghost use Rattle.iter.specs.Calls.{stepPaper, startOf, nextOf, startedOf, prefixesFit, fits, Fine};
 ghost use Rattle.iter.specs.Fill.{fillFrom, batchPaper, filled, fillOf};
-ghost use Rattle.iter.specs.Steps.{Bit, Placed, Descended};
-ghost use Rattle.iter.specs.Walk.{lowFrom, handed, next};
+ghost use Rattle.iter.specs.Steps.{refusalOf, parts, isReading, restOf, Descended, Sank};
+ghost use Rattle.iter.specs.Walk.{lowLayer, kind, firstBit, placeAt, handed, handled, more, startAt, next};
 
 // Layer k's mask and prefix stand at place k; the top layer has no prefix.
 pub struct Cursor {
@@ -51,24 +49,8 @@ pub struct Batch {
     pub stop: Stop,
 }
 
-// The lowest set bit of a word.
-fn first_bit(m: u64) -> u32
-    requires { ⌜ 0 < m ⌝ }
-    ensures { λ r. ⌜ (r ≡ trailingZeros 64 m) × (r < 64) ⌝ }
-{
-    u64::trailing_zeros(m)
-}
-
-// A word without its lowest set bit.
-fn less(m: u64) -> u64
-    requires { ⌜ 0 < m ⌝ }
-    ensures { λ r. ⌜ r ≡ m - 2 ^ trailingZeros 64 m ⌝ }
-{
-    m & (m - 1)
-}
-
 // Whether a number is a prefix below a bound.
-fn is_prefix(p: u32, bound: u32) -> bool
+fn is_prefix(p: u64, bound: u64) -> bool
     ensures { λ r. ⌜ r ≡ (eqb (p % 64) 0 && ltb p bound) ⌝ }
 {
     if p % 64 != 0 {
@@ -77,8 +59,8 @@ fn is_prefix(p: u32, bound: u32) -> bool
     p < bound
 }
 
-// Whether the prefixes of the layers 0, 1 and 2 are those of a cursor.
-fn fits(p0: u32, p1: u32, p2: u32) -> bool
+// Whether three numbers are the prefixes of a cursor, of the layers 0, 1 and 2.
+pub fn are_prefixes(p0: u64, p1: u64, p2: u64) -> bool
     ensures { λ r. ⌜ r ≡ prefixesFit 3 (p0 ∷ p1 ∷ p2 ∷ []) 3 ⌝ }
 {
     if !is_prefix(p0, 16777216) {
@@ -90,125 +72,177 @@ fn fits(p0: u32, p1: u32, p2: u32) -> bool
     is_prefix(p2, 4096)
 }
 
-// Word i of layer k; 0 past the layer's end.
-fn layer_word(store: &[u64], n: usize, k: usize, i: usize) -> u64
-    requires { ⌜ (StoreOf n (now store)) × (k ≤ top n) ⌝ }
-    ensures { λ r. ⌜ r ≡ word n (now (store .entry)) k i ⌝ }
+// A cursor, and the words that were read on the way to it.
+struct Sunk {
+    cursor: Cursor,
+    reads: u64,
+}
+
+// The cursor above everything that stands below a top word.
+pub fn above(top: u64) -> Cursor
+    ensures { λ r. ⌜ r ≡ startAt 3 top ⌝ }
 {
-    let a = store::end(n, k + 1);
-    let e = store::end(n, k);
-    store::get(&store[a..e], i)
+    Cursor {
+        masks: [0, 0, 0, top],
+        prefix: [0; 3],
+    }
+}
+
+// Where the lowest bit of a mask stands behind a prefix.
+fn behind(p: u32, m: u64) -> usize
+    ensures { λ r. ⌜ (r ≡ p + trailingZeros 64 m) × (0 < m → trailingZeros 64 m < 64) ⌝ }
+{
+    p as usize + u64::trailing_zeros(m) as usize
 }
 
 impl Cursor {
-    // The lowest layer whose mask is not 0; 4 where all are 0.
-    fn level(self) -> usize
-        ensures { λ r. ⌜ r ≡ lowFrom (self .masks) 0 4 ⌝ }
+    // Where the lowest bit of layer k's mask stands in its layer; the top layer has no prefix. Layers count modulo 4.
+    pub fn place(self, k: usize) -> usize
+        ensures { λ r. ⌜ (r ≡ placeAt 3 self (k % 4)) × (0 < getD (self .masks) (k % 4) 0 → firstBit self (k % 4) < 64) ⌝ }
     {
         let masks = self.masks;
-        if masks[0] != 0 {
-            return 0;
-        }
-        if masks[1] != 0 {
-            return 1;
-        }
-        if masks[2] != 0 {
-            return 2;
-        }
-        if masks[3] != 0 {
-            return 3;
-        }
-        4
-    }
-
-    // The place in layer k of the lowest bit of its mask; the top layer has no prefix.
-    fn place(self, k: usize) -> u32
-        requires { ⌜ Bit 3 self k ⌝ }
-        ensures { λ r. ⌜ Placed 3 self k r ⌝ }
-    {
-        let masks = self.masks;
-        let bit = first_bit(masks[k]);
-        if k == 3 {
-            return bit;
+        let j = k % 4;
+        if j == 3 {
+            return behind(0, masks[j]);
         }
         let prefix = self.prefix;
-        prefix[k] + bit
-    }
-
-    // The lowest bit of layer k is taken and the word below it read.
-    fn handle_level(self, store: &[u64], n: usize, k: usize) -> Cursor
-        requires { ⌜ (StoreOf n (now store)) × (0 < k) × (Bit 3 self k) ⌝ }
-        ensures { λ r. ⌜ Descended n (now (store .entry)) self k r ⌝ }
-    {
-        let q = self.place(k);
-        let j = k - 1;
-        let mut c = self;
-        let m = c.masks[k];
-        c.masks[k] = less(m);
-        c.masks[j] = layer_word(store, n, j, q as usize);
-        c.prefix[j] = q * 64;
-        c
-    }
-
-    // One level down, by the number of the lowest layer: with a literal number the cursor stays in registers.
-    fn down(self, store: &[u64], n: usize, level: usize) -> Cursor
-        requires { ⌜ (StoreOf n (now store)) × (0 < level) × (Bit 3 self level) ⌝ }
-        ensures { λ r. ⌜ Descended n (now (store .entry)) self level r ⌝ }
-    {
-        if level == 1 {
-            return self.handle_level(store, n, 1);
-        }
-        if level == 2 {
-            return self.handle_level(store, n, 2);
-        }
-        self.handle_level(store, n, 3)
+        behind(prefix[j], masks[j])
     }
 
     // The cursor once layer 0's lowest bit is handed out.
-    fn hand(self) -> Cursor
-        requires { ⌜ 0 < getD (self .masks) 0 0 ⌝ }
+    pub fn hand(self) -> Cursor
         ensures { λ r. ⌜ r ≡ handed self ⌝ }
     {
         let mut c = self;
         let m = c.masks[0];
-        c.masks[0] = less(m);
+        c.masks[0] = util::drop_lowest(m);
         c
     }
 
-    // Next where nothing is refused.
-    fn run(self, store: &[u64], n: usize, budget: u64) -> Step
-        requires { ⌜ (StoreOf n (now store)) × (Fine 3 (self .prefix)) ⌝ }
-        ensures { λ r. ⌜ r ≡ next (word n (now (store .entry))) 3 budget self ⌝ }
+    // The lowest bit of the layer above layer j is taken, and the word below it, of layer j, is in hand. Layers count modulo 3.
+    pub fn handle_level(self, j: usize, word: u64) -> Cursor
+        ensures { λ r. ⌜ r ≡ handled (j % 3) word self ⌝ }
+    {
+        let low = j % 3;
+        let k = low + 1;
+        let q = self.place(k) % 67108864;
+        let mut c = self;
+        let m = c.masks[k];
+        c.masks[k] = util::drop_lowest(m);
+        c.masks[low] = word;
+        c.prefix[low] = (q * 64) as u32;
+        c
+    }
+
+    // The word below the lowest bit of the layer above layer j is read.
+    fn read(self, layer: &[u64], j: usize) -> Cursor
+        requires { ⌜ (Fine 3 (self .prefix)) × (j < 3) × (0 < getD (self .masks) (j + 1) 0) ⌝ }
+        ensures { λ r. ⌜ Descended (λ (k i : ℕ). getD (now (layer .entry)) i 0) 3 j self r ⌝ }
+    {
+        let q = self.place(j + 1);
+        self.handle_level(j, store::get(layer, q))
+    }
+
+    // Whether a word has to be read before the next member.
+    fn wants(self) -> bool
+        ensures { λ r. ⌜ r ≡ isReading (kind 3 self) ⌝ }
+    {
+        let masks = self.masks;
+        if masks[0] != 0 {
+            return false;
+        }
+        if masks[1] != 0 {
+            return true;
+        }
+        if masks[2] != 0 {
+            return true;
+        }
+        masks[3] != 0
+    }
+
+    // One word is read. Each layer has a way of its own, so that the masks stay in registers.
+    fn down(self, l2: &[u64], l1: &[u64], l0: &[u64]) -> Cursor
+        requires { ⌜ (Fine 3 (self .prefix)) × (isReading (kind 3 self) ≡ true) ⌝ }
+        ensures { λ r. ⌜ Descended (parts (now (l0 .entry) ∷ now (l1 .entry) ∷ now (l2 .entry) ∷ [])) 3 (lowLayer 3 self - 1) self r ⌝ }
+    {
+        let masks = self.masks;
+        if masks[1] != 0 {
+            return self.read(l0, 0);
+        }
+        if masks[2] != 0 {
+            return self.read(l1, 1);
+        }
+        self.read(l2, 2)
+    }
+
+    // After so many reads, words are read until none is wanted or the budget is spent.
+    fn sink(self, l2: &[u64], l1: &[u64], l0: &[u64], spent: u64, budget: u64) -> Sunk
+        requires { ⌜ (Fine 3 (self .prefix)) × (spent ≤ budget) ⌝ }
+        ensures { λ r. ⌜ Sank (parts (now (l0 .entry) ∷ now (l1 .entry) ∷ now (l2 .entry) ∷ [])) budget spent self r ⌝ }
     {
         let mut c = self;
-        let mut reads = 0u64;
-        loop {
-            let level = c.level();
-            if level == 0 {
-                let id = c.place(0);
-                return Step {
-                    cursor: c.hand(),
-                    reads,
-                    answer: Next::Member(id),
-                };
-            }
-            if level == 4 {
-                return Step {
-                    cursor: c,
-                    reads,
-                    answer: Next::End,
-                };
-            }
+        let mut reads = spent;
+        while c.wants() {
             if reads == budget {
-                return Step {
-                    cursor: c,
-                    reads,
-                    answer: Next::Paused,
-                };
+                break;
             }
-            c = c.down(store, n, level);
+            c = c.down(l2, l1, l0);
             reads += 1;
         }
+        Sunk { cursor: c, reads }
+    }
+
+    // A step that leaves this cursor.
+    fn step(self, reads: u64, answer: Next) -> Step
+        ensures { λ r. ⌜ r ≡ record { cursor = self; reads = reads; answer = answer } ⌝ }
+    {
+        Step {
+            cursor: self,
+            reads,
+            answer,
+        }
+    }
+
+    // The refusal of a walk on a store of n ids, none being no store; or 0.
+    fn refusal(self, n: usize) -> u32
+        ensures { λ r. ⌜ r ≡ refusalOf n (fits 3 self) ⌝ }
+    {
+        if n == 0 {
+            return 2;
+        }
+        let p = self.prefix;
+        if are_prefixes(p[0] as u64, p[1] as u64, p[2] as u64) {
+            0
+        } else {
+            7
+        }
+    }
+
+    // What next answers where no word is read any more.
+    fn finish(self, reads: u64) -> Step
+        requires { ⌜ Fine 3 (self .prefix) ⌝ }
+        ensures { λ r. ⌜ r ≡ more reads (next (λ (k i : ℕ). 0) 3 0 self) ⌝ }
+    {
+        let masks = self.masks;
+        if masks[0] != 0 {
+            let id = self.place(0) as u32;
+            let d = self.hand();
+            return d.step(reads, Next::Member(id));
+        }
+        if self.wants() {
+            return self.step(reads, Next::Paused);
+        }
+        self.step(reads, Next::End)
+    }
+
+    // Next over three layers, where nothing is refused.
+    fn run(self, l2: &[u64], l1: &[u64], l0: &[u64], budget: u64) -> Step
+        requires { ⌜ Fine 3 (self .prefix) ⌝ }
+        ensures { λ r. ⌜ r ≡ next (parts (now (l0 .entry) ∷ now (l1 .entry) ∷ now (l2 .entry) ∷ [])) 3 budget self ⌝ }
+    {
+        let d = self.sink(l2, l1, l0, 0, budget);
+        let c = d.cursor;
+        c.finish(d.reads)
     }
 
     // A walk's start: the top word is read. What the given cursor holds does not matter.
@@ -216,20 +250,10 @@ impl Cursor {
         ensures { λ r. ⌜ Settled stepPaper (startOf (now (store .entry)) self) r tt ⌝ }
     {
         if store::capacity(store) == 0 {
-            return Step {
-                cursor: self,
-                reads: 0,
-                answer: Next::Refused(2),
-            };
+            return self.step(0, Next::Refused(2));
         }
-        Step {
-            cursor: Cursor {
-                masks: [0, 0, 0, store::get(store, 1)],
-                prefix: [0; 3],
-            },
-            reads: 1,
-            answer: Next::Paused,
-        }
+        let c = above(store::get(store, 1));
+        c.step(1, Next::Paused)
     }
 
     // The next member, at a budget of word reads.
@@ -237,66 +261,60 @@ impl Cursor {
         ensures { λ r. ⌜ Settled stepPaper (nextOf (now (store .entry)) self budget) r tt ⌝ }
     {
         let n = store::capacity(store);
-        if n == 0 {
-            return Step {
-                cursor: self,
-                reads: 0,
-                answer: Next::Refused(2),
-            };
+        let no = self.refusal(n);
+        if no != 0 {
+            return self.step(0, Next::Refused(no));
         }
-        let prefix = self.prefix;
-        if !fits(prefix[0], prefix[1], prefix[2]) {
-            return Step {
-                cursor: self,
-                reads: 0,
-                answer: Next::Refused(7),
-            };
-        }
-        self.run(store, n, budget)
+        self.run(
+            layers::layer2_as_slice(store),
+            layers::layer1_as_slice(store),
+            layers::layer0_as_slice(store),
+            budget,
+        )
     }
 
-    // Fill where nothing is refused.
-    fn fill_in(self, store: &[u64], n: usize, budget: u64, out: &mut [u32]) -> Batch
-        requires { ⌜ (StoreOf n (now store)) × (Fine 3 (self .prefix)) ⌝ }
-        ensures { λ r. ⌜ Settled batchPaper (filled (fillFrom (word n (now (store .entry))) 3 (length (now (out .entry))) budget self) (now (out .entry))) r (now (out .exit)) ⌝ }
+    // A batch that leaves this cursor.
+    fn batch(self, reads: u64, count: usize, stop: Stop) -> Batch
+        ensures { λ r. ⌜ r ≡ record { cursor = self; reads = reads; count = count; stop = stop } ⌝ }
+    {
+        Batch {
+            cursor: self,
+            reads,
+            count,
+            stop,
+        }
+    }
+
+    // Why no member is at hand.
+    fn rest(self, reads: u64, count: usize) -> Batch
+        ensures { λ r. ⌜ r ≡ record { cursor = self; reads = reads; count = count; stop = restOf (kind 3 self) } ⌝ }
+    {
+        if self.wants() {
+            return self.batch(reads, count, Stop::Paused);
+        }
+        self.batch(reads, count, Stop::End)
+    }
+
+    // Fill over three layers, where nothing is refused.
+    fn fill_in(self, l2: &[u64], l1: &[u64], l0: &[u64], budget: u64, out: &mut [u32]) -> Batch
+        requires { ⌜ Fine 3 (self .prefix) ⌝ }
+        ensures { λ r. ⌜ Settled batchPaper (filled (fillFrom (parts (now (l0 .entry) ∷ now (l1 .entry) ∷ now (l2 .entry) ∷ [])) 3 (length (now (out .entry))) budget self) (now (out .entry))) r (now (out .exit)) ⌝ }
     {
         let mut c = self;
         let mut spent = 0u64;
         let mut count = 0usize;
         while count < out.len() {
-            let level = c.level();
-            if level == 0 {
-                let id = c.place(0);
-                out[count] = id;
-                c = c.hand();
-                count += 1;
-                continue;
+            let d = c.sink(l2, l1, l0, spent, budget);
+            c = d.cursor;
+            spent = d.reads;
+            if c.masks[0] == 0 {
+                return c.rest(spent, count);
             }
-            if level == 4 {
-                return Batch {
-                    cursor: c,
-                    reads: spent,
-                    count,
-                    stop: Stop::End,
-                };
-            }
-            if spent == budget {
-                return Batch {
-                    cursor: c,
-                    reads: spent,
-                    count,
-                    stop: Stop::Paused,
-                };
-            }
-            c = c.down(store, n, level);
-            spent += 1;
+            out[count] = c.place(0) as u32;
+            c = c.hand();
+            count += 1;
         }
-        Batch {
-            cursor: c,
-            reads: spent,
-            count,
-            stop: Stop::Full,
-        }
+        c.batch(spent, count, Stop::Full)
     }
 
     // As many members as `out` holds or the budget allows: what that many calls of next do, with the tests made once.
@@ -304,23 +322,24 @@ impl Cursor {
         ensures { λ r. ⌜ Settled batchPaper (fillOf (now (store .entry)) self budget (now (out .entry))) r (now (out .exit)) ⌝ }
     {
         let n = store::capacity(store);
-        if n == 0 {
-            return Batch {
-                cursor: self,
-                reads: 0,
-                count: 0,
-                stop: Stop::Refused(2),
-            };
+        let no = self.refusal(n);
+        if no != 0 {
+            return self.batch(0, 0, Stop::Refused(no));
         }
-        let prefix = self.prefix;
-        if !fits(prefix[0], prefix[1], prefix[2]) {
-            return Batch {
-                cursor: self,
-                reads: 0,
-                count: 0,
-                stop: Stop::Refused(7),
-            };
-        }
-        self.fill_in(store, n, budget, out)
+        self.fill_in(
+            layers::layer2_as_slice(store),
+            layers::layer1_as_slice(store),
+            layers::layer0_as_slice(store),
+            budget,
+            out,
+        )
     }
+}
+
+// The cursor of a walk that is started, for a caller with none: zeros where the slice is no store.
+pub fn started(store: &[u64]) -> Cursor
+    ensures { λ r. ⌜ r ≡ startedOf (now (store .entry)) ⌝ }
+{
+    let s = above(0).start(store);
+    s.cursor
 }

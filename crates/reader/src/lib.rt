@@ -1,7 +1,7 @@
 // The walk of one store as the Rust's `BitIter`: a reader that holds the lent store beside its cursor.
 ghost use mathlib.Core.Path.{_≡_};
-ghost use Rattle.iter.specs.Calls.{startIn, nextIn};
-ghost use Rattle.reader.specs.Readers.{zero, told};
+ghost use Rattle.iter.specs.Calls.{startedOf, nextIn};
+ghost use Rattle.reader.specs.Readers.{told};
 use iter::Cursor;
 use iter::Next;
 
@@ -17,23 +17,11 @@ pub struct Told {
     pub answer: Next,
 }
 
-// The cursor of a walk that is started.
-fn started(store: &[u64]) -> Cursor
-    ensures { λ r. ⌜ r ≡ startIn (now (store .entry)) zero .cursor ⌝ }
-{
-    let c = Cursor {
-        masks: [0; 4],
-        prefix: [0; 3],
-    };
-    let s = c.start(store);
-    s.cursor
-}
-
 // A reader that is started: the store, and the cursor that `start` leaves of a zero cursor.
 pub fn iter<'a>(store: &'a [u64]) -> BitIter<'a>
-    ensures { λ r. ⌜ (r .store ≡ store .entry) × (r .cursor ≡ startIn (now (store .entry)) zero .cursor) ⌝ }
+    ensures { λ r. ⌜ (r .store ≡ store .entry) × (r .cursor ≡ startedOf (now (store .entry))) ⌝ }
 {
-    let cursor = started(store);
+    let cursor = iter::started(store);
     BitIter { store, cursor }
 }
 
@@ -55,7 +43,7 @@ pub fn next<'s, 'a>(it: &'s mut BitIter<'a>, budget: u64) -> Told
 
 // The first step of a walk of a store: a reader is made, and one step is taken of it.
 pub fn first(store: &[u64], budget: u64) -> Told
-    ensures { λ r. ⌜ r ≡ told (nextIn (now (store .entry)) (startIn (now (store .entry)) zero .cursor) budget) ⌝ }
+    ensures { λ r. ⌜ r ≡ told (nextIn (now (store .entry)) (startedOf (now (store .entry))) budget) ⌝ }
 {
     let mut it = iter(store);
     next(&mut it, budget)

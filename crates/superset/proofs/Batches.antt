@@ -16,22 +16,18 @@ use Rattle.iter.specs.declared.Cursor.{Cursor}
 use Rattle.iter.specs.declared.Step.{Step}
 use Rattle.iter.specs.declared.Stop.{Stop}
 use Rattle.iter.specs.declared.Stop.the-variants.{Full, Paused, End}
-use Rattle.iter.specs.Calls.{Fine, stepPaper, startOf, startIn}
+use Rattle.iter.specs.Calls.{Fine, startedOf}
 use Rattle.iter.specs.Fill.{Filled, batchPaper, batch, fillFrom, fillIn, fillOf}
 use Rattle.iter.specs.Walk.{startAt}
 use Rattle.iter.proofs.Answers.{start-is}
-use Rattle.iter.proofs.Cursors.{Wf, start-wf, start-fine}
-use Rattle.iter.proofs.Rest.{rest, cost, Moves, start-rest}
+use Rattle.demand.proofs.Taken.{Wf, start-wf, start-fine}
+use Rattle.demand.proofs.Rest.{rest, cost, Moves, start-rest}
 use Rattle.demand.specs.Fills.{Stopped}
 use Rattle.demand.specs.Fills.Stopped.{full, paused, ended}
 use Rattle.demand.proofs.Fills.{fill-moved, fill-is}
 use Rattle.superset.specs.Calls.{allHeld, walked}
-use Rattle.superset.specs.Steps.{zero, goesOn}
+use Rattle.superset.specs.Steps.{goesOn}
 use Rattle.superset.proofs.Held.{held-append}
-
--- the cursor that the start leaves
-pub the-cursor : (t : List ℕ) {r : Step} → Settled stepPaper (startOf t zero) r tt → r .cursor ≡ startIn t zero .cursor
-the-cursor t h = ap (λ (x : Step). x .cursor) (settles {r′ = startIn t zero} h (record { answer = refl; memory = refl }) .0)
 
 -- what a cursor in a walk of t has still to hand out, and the words to read and the ids to hand out in number
 abbrev pub ahead : List ℕ → Cursor → List ℕ
@@ -73,10 +69,10 @@ module _ (s t : List ℕ) (is : isStore t ≡ true) (small : Words64 t) where
   abbrev k : ℕ
   k = top (cap t)
 
-  pub going-start : {ids : List ℕ} (c : Cursor) → length ids ≡ 64 → c ≡ startIn t zero .cursor → Going s t ids c
+  pub going-start : {ids : List ℕ} (c : Cursor) → length ids ≡ 64 → c ≡ startedOf t → Going s t ids c
   going-start {ids} c l e =
       let w = lw k 0 in
-      let q : c ≡ startAt k w = e ∙ ap (λ (x : Step). x .cursor) (start-is (store-is is) zero) in
+      let q : c ≡ startAt k w = e ∙ ap (λ (x : Step). x .cursor) (start-is (store-is is) (startAt 3 0)) in
       subst (Going s t ids) (sym q) (record {
         wf = start-wf k w (word-lt (cap t) t small k 0);
         fine = start-fine k w;

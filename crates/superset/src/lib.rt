@@ -4,9 +4,8 @@ ghost use mathlib.Core.Path.{_≡_};
 ghost use Rattle.util.specs.Outcome.{Settled};
 ghost use Rattle.store.specs.Answer.{askedPaper};
 ghost use Rattle.store.specs.Layout.{isStore};
-ghost use Rattle.iter.specs.Calls.{startIn};
 ghost use Rattle.superset.specs.Calls.{isMember, allHeld, walked, containsSetOf};
-ghost use Rattle.superset.specs.Steps.{zero, goesOn};
+ghost use Rattle.superset.specs.Steps.{goesOn};
 use iter::Cursor;
 use iter::Stop;
 use store::Asked;
@@ -40,18 +39,6 @@ fn all_held(store: &[u64], ids: &[u32]) -> bool
     true
 }
 
-// The cursor of a walk that is started.
-fn started(store: &[u64]) -> Cursor
-    ensures { λ r. ⌜ r ≡ startIn (now (store .entry)) zero .cursor ⌝ }
-{
-    let c = Cursor {
-        masks: [0; 4],
-        prefix: [0; 3],
-    };
-    let s = c.start(store);
-    s.cursor
-}
-
 // Whether a walk goes on after a fill.
 fn goes_on(stop: Stop) -> bool
     ensures { λ r. ⌜ r ≡ goesOn stop ⌝ }
@@ -70,7 +57,7 @@ fn all_walked(store: &[u64], other: &[u64]) -> bool
     ensures { λ r. ⌜ r ≡ allHeld (now (store .entry)) (walked (now (other .entry))) ⌝ }
 {
     let mut ids = [0u32; 64];
-    let mut c = started(other);
+    let mut c = iter::started(other);
     loop {
         let b = c.fill(other, BUDGET, &mut ids);
         let n = b.count;

@@ -1,4 +1,5 @@
 pub mod Bits
+pub mod Lowest
 pub mod Places
 pub mod Same
 pub mod Tally

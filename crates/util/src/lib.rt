@@ -1,6 +1,7 @@
 // Bits and shifts: the Rust's util.rs on 64-bit words.
 ghost use mathlib.Core.Path.{_≡_};
-ghost use Prim.Native.Nat.{ℕ, _+_, _*_, _/_, _%_, _^_};
+ghost use Prim.Native.Nat.{ℕ, _+_, _-_, _*_, _/_, _%_, _^_};
+ghost use lib.Count.{trailingZeros};
 ghost use lib.Dec.{eqb};
 ghost use Rattle.util.specs.Word.{bit, change};
 ghost use Rattle.util.specs.Row.{offsetOf, rowOf, maskOf, offsetsOf};
@@ -76,6 +77,16 @@ pub fn with_bit(w: u64, b: usize, on: bool) -> u64
 {
     let m = 1u64 << (b % 64);
     if on { w | m } else { w & !m }
+}
+
+// The word without its lowest set bit; 0 stays 0.
+pub fn drop_lowest(w: u64) -> u64
+    ensures { λ r. ⌜ r ≡ w - 2 ^ trailingZeros 64 w ⌝ }
+{
+    if w == 0 {
+        return 0;
+    }
+    w & (w - 1)
 }
 
 // The bit that splits a word's set bits, or none.

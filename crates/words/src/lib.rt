@@ -1,13 +1,8 @@
 // A cursor as ten lent words, for callers that keep it as plain numbers: masks in words 0 to 3, prefixes in words 5 to 7, the reads of the
 // last call in word 9. Words 4 and 8 are room for a fifth layer.
-ghost use mathlib.Core.Bool.{_&&_};
-ghost use mathlib.Core.List.{[], _∷_};
 ghost use mathlib.Core.Path.{_≡_};
-ghost use Prim.Native.Nat.{_-_, _%_, _^_, _<_};
-ghost use lib.Count.{trailingZeros};
-ghost use lib.Dec.{eqb, ltb};
+ghost use Prim.Native.Nat.{_<_};
 ghost use lib.ListN.{getD};
-ghost use Rattle.iter.specs.Calls.{prefixesFit};
 ghost use Rattle.words.specs.Ten.{prefixesOf, cursorOf, putOf, readyOf, idOf, handedOf, quickOf, quickWords};
 use iter::Cursor;
 
@@ -64,29 +59,6 @@ pub fn put(words: &mut [u64; 10], c: Cursor, reads: u64)
     ];
 }
 
-// Whether a number is a prefix below a bound.
-fn is_prefix(p: u64, bound: u64) -> bool
-    ensures { λ r. ⌜ r ≡ (eqb (p % 64) 0 && ltb p bound) ⌝ }
-{
-    if p % 64 != 0 {
-        return false;
-    }
-    p < bound
-}
-
-// Whether three words are the prefixes of a cursor.
-fn fits(p0: u64, p1: u64, p2: u64) -> bool
-    ensures { λ r. ⌜ r ≡ prefixesFit 3 (p0 ∷ p1 ∷ p2 ∷ []) 3 ⌝ }
-{
-    if !is_prefix(p0, 16777216) {
-        return false;
-    }
-    if !is_prefix(p1, 262144) {
-        return false;
-    }
-    is_prefix(p2, 4096)
-}
-
 // Whether nothing is refused and layer 0's mask has a bit.
 fn ready(store: &[u64], words: &[u64; 10]) -> bool
     ensures { λ r. ⌜ r ≡ readyOf (now (store .entry)) (now (words .entry)) ⌝ }
@@ -97,23 +69,7 @@ fn ready(store: &[u64], words: &[u64; 10]) -> bool
     if store::capacity(store) == 0 {
         return false;
     }
-    fits(words[5], words[6], words[7])
-}
-
-// The lowest set bit of a word.
-fn first_bit(m: u64) -> u32
-    requires { ⌜ 0 < m ⌝ }
-    ensures { λ r. ⌜ (r ≡ trailingZeros 64 m) × (r < 64) ⌝ }
-{
-    u64::trailing_zeros(m)
-}
-
-// A word without its lowest set bit.
-fn less(m: u64) -> u64
-    requires { ⌜ 0 < m ⌝ }
-    ensures { λ r. ⌜ r ≡ m - 2 ^ trailingZeros 64 m ⌝ }
-{
-    m & (m - 1)
+    iter::are_prefixes(words[5], words[6], words[7])
 }
 
 // Layer 0's lowest bit is handed out, with no read.
@@ -131,10 +87,10 @@ fn give(words: &mut [u64; 10]) -> u64
     let w6 = words[6];
     let w7 = words[7];
     let w8 = words[8];
-    let b = first_bit(m);
-    let a = less(m);
+    let b = u64::trailing_zeros(m) as u64;
+    let a = util::drop_lowest(m);
     *words = [a, w1, w2, w3, w4, w5, w6, w7, w8, 0];
-    w5 + b as u64
+    w5 + b
 }
 
 // The next member where it costs no read and nothing is refused; else none, and the words stay.

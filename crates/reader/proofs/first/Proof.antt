@@ -45,8 +45,8 @@ use denote.Triple.Spec.{Meets, tripleOf}
 use denote.Triple.Table.{entered, cited}
 use denote.Triple.Walked.{says, Stays, stay-none, stay-none-slice, walkOf, goes-none, goes-none-slice, Walks, ends-at, walked, walk-meets}
 use denote.Exit.{yes}
-use Rattle.iter.specs.Calls.{startIn, nextIn}
-use Rattle.reader.specs.Readers.{zero, told}
+use Rattle.iter.specs.Calls.{startedOf, nextIn}
+use Rattle.reader.specs.Readers.{told}
 use Rattle.reader.specs.declared.BitIter.{BitIter}
 use Rattle.iter.specs.declared.Cursor.{Cursor}
 use Rattle.reader.specs.declared.Told.{Told}
@@ -72,7 +72,7 @@ stayed = (stay-none-slice (0 ∷ []) tt (plain (λ _. u64)) yes, (stay-none (λ 
 
 -- what `iter` and `next` say
 abbrev Made : RefT (List ℕ) → BitIter → Type 0
-Made s w = (w .store ≡ s) × (w .cursor ≡ startIn (now s) zero .cursor)
+Made s w = (w .store ≡ s) × (w .cursor ≡ startedOf (now s))
 
 abbrev Stepped : ℕ → BitIter → BitIter → Told → Type 0
 Stepped n w w′ a = (w′ .store ≡ w .store) × (w′ .cursor ≡ nextIn (now (w .store)) (w .cursor) n .cursor) ×
@@ -80,7 +80,7 @@ Stepped n w w′ a = (w′ .store ≡ w .store) × (w′ .cursor ≡ nextIn (now
 
 -- what `first` says
 abbrev firstOf : List ℕ → ℕ → Told
-firstOf s n = told (nextIn s (startIn s zero .cursor) n)
+firstOf s n = told (nextIn s (startedOf s) n)
 
 concludes : (s : RefT (List ℕ)) (n : ℕ) (w w′ : BitIter) (a : Told) → Made s w → Stepped n w w′ a → a ≡ firstOf (now s) n
 concludes s n w w′ a e e₁ =

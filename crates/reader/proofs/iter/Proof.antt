@@ -40,18 +40,17 @@ use denote.Triple.Spec.{Meets, tripleOf}
 use denote.Triple.Table.{entered, cited}
 use denote.Triple.Walked.{says, Stays, stay-none-slice, walkOf, goes-none-slice, Walks, ends-at, walked, walk-meets}
 use denote.Exit.{yes}
-use Rattle.iter.specs.Calls.{startIn}
-use Rattle.reader.specs.Readers.{zero}
+use Rattle.iter.specs.Calls.{startedOf}
 use Rattle.reader.specs.declared.BitIter.{BitIter}
 use Rattle.iter.specs.declared.Cursor.{Cursor}
 use Rattle.reader.proofs.BitIter as T
 use Rattle.reader.proofs.BitIter.Laws as T′
 use Rattle.iter.proofs.Cursor as Cu
 use Rattle.iter.proofs.Cursor.Laws as Cu′
-use Rattle.reader.proofs.started as started
-use Rattle.reader.proofs.started.Symbol as started-def
-use Rattle.reader.proofs.started.Symbol.{name as #reader·started}
-use Rattle.reader.proofs.started.Met as started-thm
+use Rattle.iter.proofs.started as started
+use Rattle.iter.proofs.started.Symbol as started-def
+use Rattle.iter.proofs.started.Symbol.{name as #iter·started}
+use Rattle.iter.proofs.started.Met as started-thm
 use Rattle.reader.proofs.iter.Key.{name as #reader·iter}
 use Rattle.reader.proofs.iter as iter
 use Rattle.reader.proofs.iter.Statement as stated
@@ -118,10 +117,10 @@ module _ {M : Type 1} (𝓤 : URA M) (H : Heap 𝓤) (A : Atoms 𝓤) (W : Given
       move ! (0 ∷ 2 ∷ []) $ fjoin ! $ move ! (2 ∷ 0 ∷ []) $ use2 W (raw (Started 𝓤 H A mem run .pre to)) asked $ frame ! $ done !
 
   said : (r : Cursor)
-      → ent 𝓤 (ensured 𝓤 H A started.ended (started.clauses 𝓤 H A mem run) (κ, tt) (s, tt) tt r) (fact 𝓤 (r ≡ startIn (now s) zero .cursor))
-  said r = exE 𝓤 _ (λ ws. snd∗ 𝓤 (sem 𝓤 H A (lasts started.ended (κ, tt) (s, tt) ws)) (fact 𝓤 (r ≡ startIn (now s) zero .cursor)))
+      → ent 𝓤 (ensured 𝓤 H A started.ended (started.clauses 𝓤 H A mem run) (κ, tt) (s, tt) tt r) (fact 𝓤 (r ≡ startedOf (now s)))
+  said r = exE 𝓤 _ (λ ws. snd∗ 𝓤 (sem 𝓤 H A (lasts started.ended (κ, tt) (s, tt) ws)) (fact 𝓤 (r ≡ startedOf (now s))))
 
-  exits : (c : Cursor) → Is Cu.the-row c (vc c ∷ []) → c ≡ startIn (now s) zero .cursor
+  exits : (c : Cursor) → Is Cu.the-row c (vc c ∷ []) → c ≡ startedOf (now s)
       → ent 𝓤 (⋆ 𝓤 H A ((‵ (flft κ q) ⊛ ‵ ftrue) ∷ ‵ Own ∷ [])) (Post (mach c))
   exits c is e =
       qed W ((‵ (flft κ q) ⊛ ‵ ftrue) ∷ ‵ Own ∷ []) ∵
@@ -134,7 +133,7 @@ module _ {M : Type 1} (𝓤 : URA M) (H : Heap 𝓤) (A : Atoms 𝓤) (W : Given
       nothing ! $ owned ! Cu.the-row (Is Cu.the-row) (LL.makes Cu.the-type Cu′.the-plain 𝓤 H A) c (vc c ∷ []) is $ fjoin ! $ move ! (1 ∷ 0 ∷ []) $
       fjoin ! $ by ! (own-shut 𝓤 H A W D L (s, (c, tt)))
 
-  module _ (C : Calls 𝓤 H) (Λ : Loops 𝓤 H) (fm : FmC 𝓤 H (W .laws) C) (known : Triple 𝓤 (C #reader·started) (Started 𝓤 H A mem run)) where
+  module _ (C : Calls 𝓤 H) (Λ : Loops 𝓤 H) (fm : FmC 𝓤 H (W .laws) C) (known : Triple 𝓤 (C #iter·started) (Started 𝓤 H A mem run)) where
     walk : Is (ShrSlice (named 0) κ u64) s (v ∷ [])
         → ent 𝓤 (onEntry 𝓤 H A iter.signature (κ, tt) (q, tt) (s, tt) at) (WpFn 𝓤 H C Λ code.function (v ∷ []) Post)
     walk p =
@@ -146,8 +145,8 @@ module _ {M : Type 1} (𝓤 : URA M) (H : Heap 𝓤) (A : Atoms 𝓤) (W : Given
         use1 W (later (some (λ (r : Cursor). ((‵ (flft κ q) ⊛ ‵ ftrue) ⊛ ‵ (Cu.the-row .own r (u ∷ []))) ⊛ raw
         (ensured 𝓤 H A started.ended (started.clauses 𝓤 H A mem run) (κ, tt) (s, tt) tt r)))) (id⊢ 𝓤 _) $
         await ! tt $ pick ! (λ r.
-        split ! $ move ! (1 ∷ []) $ use1 W (raw (fact 𝓤 (r ≡ startIn (now s) zero .cursor))) (said r) $
-        heard ! (r ≡ startIn (now s) zero .cursor) (λ e. split ! $ move ! (1 ∷ []) $
+        split ! $ move ! (1 ∷ []) $ use1 W (raw (fact 𝓤 (r ≡ startedOf (now s)))) (said r) $
+        heard ! (r ≡ startedOf (now s)) (λ e. split ! $ move ! (1 ∷ []) $
         peeks ! Cu.the-row (Is Cu.the-row) (shows 𝓤 H A Cu.the-row) r (u ∷ []) (λ is₀.
         -- [the result's; the token; what s owns; _2; …; _1; …; room for _0; …]
         land ! (from ! (stop !)) (init ! 3 refl (LL.lawful Cu.the-type Cu′.the-laws 𝓤 H A W .typed r _ is₀ .0)) $
@@ -159,14 +158,14 @@ module _ {M : Type 1} (𝓤 : URA M) (H : Heap 𝓤) (A : Atoms 𝓤) (W : Given
         by ! (exits r (cursor-is r u is₀) e))))))))
 
 module _ {M : Type 1} (𝓤 : URA M) (H : Heap 𝓤) (A : Atoms 𝓤) (W : Given 𝓤 H A) (mem : Memory → SProp 𝓤) (run : Routine → Fun 𝓤) where
-  iter-walks : (C : Calls 𝓤 H) (Λ : Loops 𝓤 H) → FmC 𝓤 H (W .laws) C → Triple 𝓤 (C #reader·started) (Started 𝓤 H A mem run)
+  iter-walks : (C : Calls 𝓤 H) (Λ : Loops 𝓤 H) → FmC 𝓤 H (W .laws) C → Triple 𝓤 (C #iter·started) (Started 𝓤 H A mem run)
       → Walks 𝓤 H A iter.ended stayed (WpFn 𝓤 H C Λ code.function) (iter.clauses 𝓤 H A mem run)
   iter-walks C Λ fm known = walked 𝓤 H A iter.ended stayed (iter.clauses 𝓤 H A mem run) (WpFn 𝓤 H C Λ code.function) (λ κs. (slice-vals, tt))
       (λ κs. (shr-slice-tells (named 0) (κs .0) u64, tt))
       (λ κs qs bounds a g are. via 𝓤 _ (fst∗ 𝓤 _ (emp 𝓤)) (walk 𝓤 H A W mem run (κs .0) (qs .0) (a .0) C Λ fm known (are .0)))
 
 iter-meets : {M : Type 1} (𝓤 : URA M) (H : Heap 𝓤) (A : Atoms 𝓤) (W : Given 𝓤 H A) (mem : Memory → SProp 𝓤) (run : Routine → Fun 𝓤) (𝓣 : Tables 𝓤 H)
-    → Triple 𝓤 (𝓣 .C #reader·started) (Started 𝓤 H A mem run)
+    → Triple 𝓤 (𝓣 .C #iter·started) (Started 𝓤 H A mem run)
     → Meets 𝓤 H A iter.signature (WpFn 𝓤 H (𝓣 .C) (𝓣 .Λ) code.function) (iter.spec 𝓤 H A mem run)
 iter-meets 𝓤 H A W mem run 𝓣 known = walk-meets 𝓤 H A iter.ended stayed W (goes-none-slice 𝓤 H A W 1 (0 ∷ []) tt (plain (λ _. u64)) yes, tt)
     (iter.clauses 𝓤 H A mem run) (WpFn 𝓤 H (𝓣 .C) (𝓣 .Λ) code.function) (WpFn-mono 𝓤 H (W .laws) 𝓣 code.function)
@@ -178,5 +177,5 @@ iter-spec 𝓤 H 𝓜 𝓖 𝓡 =
     entered 𝓤 H (tripleOf 𝓤 H (𝓖 .A) iter.signature (iter.spec 𝓤 H (𝓖 .A) (𝓜 .mem) (𝓡 .run)))
     (tables 𝓤 H 𝓜 𝓡 code.env .C) (tables 𝓤 H 𝓜 𝓡 code.env .Λ) #reader·iter code.function (code.unfolded 𝓤 H 𝓜 𝓡)
     (iter-meets 𝓤 H (𝓖 .A) (givenOf 𝓤 H 𝓜 𝓖) (𝓜 .mem) (𝓡 .run) (tablesOf 𝓤 H 𝓜 (tables 𝓤 H 𝓜 𝓡 code.env))
-    (cited 𝓤 H (Started 𝓤 H (𝓖 .A) (𝓜 .mem) (𝓡 .run)) 𝓜 𝓡 code.env #reader·started started-def.routine code.calls-reader·started
+    (cited 𝓤 H (Started 𝓤 H (𝓖 .A) (𝓜 .mem) (𝓡 .run)) 𝓜 𝓡 code.env #iter·started started-def.routine code.calls-iter·started
     (started-thm.met 𝓤 H 𝓜 𝓖 𝓡)))

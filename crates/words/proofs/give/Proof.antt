@@ -1,8 +1,10 @@
 -- `words::give` meets its contract. Assumes nothing.
 use mathlib.Core.List.{_∷_, []}
-use mathlib.Core.Path.{ap}
-use Prim.Native.Nat.{ℕ, _+_}
+use mathlib.Core.Path.{refl, ap}
+use Prim.Native.Nat.{ℕ}
+use native.Mathlib.Omega.{arith}
 use borrow.Author.Needs.{needs}
+use lib.Count.{trailing-le}
 use lib.ListN.{getD}
 use Rattle.words.specs.Ten.{idOf, handedOf}
 use Rattle.words.proofs.give.Statement.{statement}
@@ -35,28 +37,26 @@ element-copy-out-w7 c = search needs
 element-copy-out-w8 : tie.Need-element-copy-out-w8
 element-copy-out-w8 c = search needs
 
-first-bit-requires : tie.Need-first-bit-requires
-first-bit-requires c κs = search needs
+cast-b : tie.Need-cast-b
+cast-b c = record { fits = omega (arith, trailing-le 64 (getD (c .before .before .before .before .before .before .before .before .before .args .words .now) 0 0)) }
 
-less-requires : tie.Need-less-requires
-less-requires c κs = search needs
-
-cast-result : tie.Need-cast-result
-cast-result c = search needs
+drop-lowest-requires : tie.Need-drop-lowest-requires
+drop-lowest-requires c κs = search needs
 
 add-result : tie.Need-add-result
-add-result c = search needs
+add-result c =
+    let s = c .before .before .before .before .before .before .before .before .before .before .before in
+    record { fits = omega (arith, s .pre .1, trailing-le 64 (getD (s .args .words .now) 0 0)) }
 
 returns : tie.Need-returns
 unfolding idOf handedOf
 returns c =
     let k = c .before in
-    let b = k .before in
-    let l = b .before .before .before .before .before .before .before .before .before .before .args .words .now in (
-      ap (λ (x : ℕ). getD l 5 0 + x) (b .first-bit .ensures .0),
+    let l = k .before .before .before .before .before .before .before .before .before .before .args .words .now in (
+      refl,
       ap
           (λ (x : ℕ). x ∷ getD l 1 0 ∷ getD l 2 0 ∷ getD l 3 0 ∷ getD l 4 0 ∷ getD l 5 0 ∷ getD l 6 0 ∷ getD l 7 0 ∷ getD l 8 0 ∷ 0 ∷ [])
-          (k .less .ensures),
+          (k .drop-lowest .ensures),
     )
 
 pub give-spec : {M : Type 1} → statement M
@@ -72,8 +72,7 @@ give-spec =
     element-copy-out-w6
     element-copy-out-w7
     element-copy-out-w8
-    first-bit-requires
-    less-requires
-    cast-result
+    cast-b
+    drop-lowest-requires
     add-result
     returns)

@@ -41,17 +41,17 @@ returns-2 c =
     let s = k .before .before .before .before .args .store .now in
     sym (rw (bit-here (k .before), no-store s (k .capacity .ensures) (c .if2 .taken)))
 
-element-copy-out-fits : tie.Need-element-copy-out-fits
-element-copy-out-fits c = search needs
+element-copy-out-are-prefixes : tie.Need-element-copy-out-are-prefixes
+element-copy-out-are-prefixes c = search needs
 
-element-copy-out-fits-2 : tie.Need-element-copy-out-fits-2
-element-copy-out-fits-2 c = search needs
+element-copy-out-are-prefixes-2 : tie.Need-element-copy-out-are-prefixes-2
+element-copy-out-are-prefixes-2 c = search needs
 
-element-copy-out-fits-3 : tie.Need-element-copy-out-fits-3
-element-copy-out-fits-3 c = search needs
+element-copy-out-are-prefixes-3 : tie.Need-element-copy-out-are-prefixes-3
+element-copy-out-are-prefixes-3 c = search needs
 
-fits-requires : tie.Need-fits-requires
-fits-requires c κs = search needs
+are-prefixes-requires : tie.Need-are-prefixes-requires
+are-prefixes-requires c κs = search needs
 
 returns-3 : tie.Need-returns-3
 unfolding readyOf
@@ -59,7 +59,7 @@ returns-3 c =
     let e = c .before .before .before .before in
     let k = e .before in
     let s = k .before .before .before .before .args .store .now in
-    c .fits2 .ensures ∙ sym (rw (bit-here (k .before), is-store (some-store s (k .capacity .ensures) (e .if2 .left))))
+    c .are-prefixes .ensures ∙ sym (rw (bit-here (k .before), is-store (some-store s (k .capacity .ensures) (e .if2 .left))))
 
 pub ready-spec : {M : Type 1} → statement M
 ready-spec =
@@ -69,8 +69,8 @@ ready-spec =
     returns
     capacity-requires
     returns-2
-    element-copy-out-fits
-    element-copy-out-fits-2
-    element-copy-out-fits-3
-    fits-requires
+    element-copy-out-are-prefixes
+    element-copy-out-are-prefixes-2
+    element-copy-out-are-prefixes-3
+    are-prefixes-requires
     returns-3)

@@ -1,55 +1,71 @@
--- `iter::Cursor::down` meets its contract: the level is 1, 2 or 3. Assumes nothing.
-use mathlib.Core.Path.{_≡_, sym, subst}
-use Prim.Native.Nat.{ℕ}
+-- `iter::Cursor::down` meets its contract: a word is wanted, so that layer 0 is empty, and the first other mask is looked for. Assumes nothing.
+use mathlib.Core.Path.{_≡_, _∙_, subst}
+use Prim.Native.Nat.{ℕ, _<_}
 use native.Mathlib.Omega.{arith}
-use Rattle.iter.specs.Steps.{Bit, Descended}
+use lib.ListN.{getD}
+use Rattle.iter.specs.Walk.{lowLayer}
+use Rattle.iter.proofs.Cursors.{low-found, low-pass, low-stop, reading-low, reading-zero, descended-at}
+use borrow.Author.Needs.{needs}
 use Rattle.iter.proofs.Cursor.down.Statement.{statement}
 use Rattle.iter.proofs.Cursor.down.Tie as tie
 
-handle-level-requires : tie.Need-handle-level-requires
-handle-level-requires c κs =
-    let s = c .before .before in
-    (s .pre .0, omega arith, subst (Bit 3 (s .args .self)) (c .if1 .taken) (s .pre .2))
+-- where it begins
+abbrev begin : tie.After-masks → tie.Start
+begin c = c .before .before .before .before
+
+-- and layer 0 is empty
+zero-here : (c : tie.After-masks) → getD (begin c .args .self .masks) 0 0 ≡ 0
+zero-here c = reading-zero 3 (begin c .args .self) (begin c .pre .1)
+
+array-read-if1 : tie.Need-array-read-if1
+array-read-if1 c = search needs
+
+read-requires : tie.Need-read-requires
+read-requires c κs = (begin (c .before) .pre .0, omega arith, omega (arith, c .if1 .taken))
 
 returns : tie.Need-returns
 returns c =
     let t = c .before in
-    let a = t .before .before .args in
-    subst (λ (k : ℕ). Descended (a .n) (a .store .now) (a .self) k (c .handle-level .result)) (sym (t .if1 .taken)) (c .handle-level .ensures)
+    descended-at (low-pass _ 0 3 (zero-here (t .before)) ∙ low-stop _ 1 2 (t .if1 .taken)) (record { cursor = c .read .ensures .cursor; fine = c .read .ensures .fine })
 
-handle-level-requires-2 : tie.Need-handle-level-requires-2
-handle-level-requires-2 c κs =
-    let s = c .before .before .before in
-    (s .pre .0, omega arith, subst (Bit 3 (s .args .self)) (c .if2 .taken) (s .pre .2))
+array-read-if2 : tie.Need-array-read-if2
+array-read-if2 c = search needs
+
+read-requires-2 : tie.Need-read-requires-2
+read-requires-2 c κs = (begin (c .before .before) .pre .0, omega arith, omega (arith, c .if2 .taken))
 
 returns-2 : tie.Need-returns-2
 returns-2 c =
     let t = c .before in
-    let a = t .before .before .before .args in
-    subst (λ (k : ℕ). Descended (a .n) (a .store .now) (a .self) k (c .handle-level2 .result)) (sym (t .if2 .taken)) (c .handle-level2 .ensures)
+    descended-at (low-pass _ 0 3 (zero-here (t .before .before)) ∙ low-pass _ 1 2 (t .before .if1 .left) ∙ low-stop _ 2 1 (t .if2 .taken))
+    (record { cursor = c .read2 .ensures .cursor; fine = c .read2 .ensures .fine })
 
--- past the two tests it is 3
-three : (c : tie.Else2) → c .before .before .before .args .level ≡ 3
-three c = let s = c .before .before .before in omega (arith, s .pre .1, s .pre .2 .layer, c .before .if1 .left, c .if2 .left)
+-- past the tests of the layers 1 and 2 it is layer 3
+low-three : (c : tie.Else2) → let s = begin (c .before .before) in (lowLayer 3 (s .args .self) ≡ 3) × (0 < getD (s .args .self .masks) 3 0)
+low-three c =
+    let m = c .before .before in
+    let a = begin m .args in
+    let l = low-found (a .self .masks) 0 4 in
+    let p = low-pass (a .self .masks) 0 3 (zero-here m) ∙ low-pass (a .self .masks) 1 2 (c .before .if1 .left) ∙ low-pass (a .self .masks) 2 1 (c .if2 .left) in
+    let f = low-found (a .self .masks) 3 1 in
+    let e : lowLayer 3 (a .self) ≡ 3 = omega (arith, p, f .first, reading-low 3 (a .self) (begin m .pre .1)) in
+    (e, subst (λ (k : ℕ). 0 < getD (a .self .masks) k 0) e (l .found (omega (arith, e))))
 
-handle-level-requires-3 : tie.Need-handle-level-requires-3
-handle-level-requires-3 c κs =
-    let s = c .before .before .before in
-    (s .pre .0, omega arith, subst (Bit 3 (s .args .self)) (three c) (s .pre .2))
+read-requires-3 : tie.Need-read-requires-3
+read-requires-3 c κs = let m = c .before .before in (begin m .pre .0, omega arith, low-three c .1)
 
 returns-3 : tie.Need-returns-3
-returns-3 c =
-    let e = c .before in
-    let a = e .before .before .before .args in
-    subst (λ (k : ℕ). Descended (a .n) (a .store .now) (a .self) k (c .handle-level3 .result)) (sym (three e)) (c .handle-level3 .ensures)
+returns-3 c = descended-at (low-three (c .before) .0) (record { cursor = c .read3 .ensures .cursor; fine = c .read3 .ensures .fine })
 
 pub down-spec : {M : Type 1} → statement M
 down-spec =
     tie.close
     (tie.spec
-    handle-level-requires
+    array-read-if1
+    read-requires
     returns
-    handle-level-requires-2
+    array-read-if2
+    read-requires-2
     returns-2
-    handle-level-requires-3
+    read-requires-3
     returns-3)

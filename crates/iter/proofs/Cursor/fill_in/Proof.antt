@@ -1,117 +1,91 @@
 -- `iter::Cursor::fill_in` meets its contract. The invariant: what stands in `out` and what a fill of its other places hands out are what the
 -- whole fill hands out. Assumes nothing.
-use mathlib.Core.Path.{subst}
-use Prim.Native.Nat.{ℕ, _+_, _-_, _<_}
+use mathlib.Core.List.{[], _∷_}
+use Prim.Native.Nat.{_+_, _-_}
 use native.Mathlib.Omega.{arith}
 use borrow.Author.Needs.{needs}
 use lib.ListN.{length, length-set}
-use Rattle.store.specs.Layout.{top}
-use Rattle.store.specs.Word.{word}
-use Rattle.iter.specs.Steps.{Filling}
-use Rattle.iter.proofs.Cursors.{Low, low-at, bit-at}
-use Rattle.iter.proofs.Fills.{fill-start, fill-again, fill-end, fill-pause, fill-down, fill-full}
+use Rattle.iter.specs.Steps.{parts, Filling}
+use Rattle.iter.proofs.Cursors.{id-small}
+use Rattle.iter.proofs.Fills.{fill-start, fill-down, fill-rest, fill-again, fill-full, as-batch}
 use Rattle.iter.proofs.Cursor.fill_in.Statement.{statement}
 use Rattle.iter.proofs.Cursor.fill_in.Tie as tie
 
 abbrev Inv-loop : tie.InvT-loop
-Inv-loop store n budget out₀ c₀ reads₀ count₀ out c reads count = Filling (word n store) 3 budget c₀ out₀ c reads count out
+Inv-loop l2 l1 l0 budget out₀ c₀ spent₀ count₀ out c spent count = Filling (parts (l0 ∷ l1 ∷ l2 ∷ [])) 3 budget c₀ out₀ c spent count out
 
 abbrev μ-loop : tie.MeasureT-loop
-μ-loop store n budget out₀ c₀ reads₀ count₀ out c reads count = (length out₀ - count) + (budget - reads)
+μ-loop l2 l1 l0 budget out₀ c₀ spent₀ count₀ out c spent count = length out₀ - count
 
 loop-holds : tie.Need-loop-holds Inv-loop μ-loop
-loop-holds c = fill-start _ 3 _ _ _ (c .before .before .pre .1)
+loop-holds c = fill-start _ 3 _ _ _ (c .before .before .before .before .pre)
 
-level-requires : tie.Need-level-requires Inv-loop μ-loop
-level-requires c κs = tt
+sink-requires : tie.Need-sink-requires Inv-loop μ-loop
+sink-requires c κs = let i = c .before .loop .inv in (i .fine, i .spent)
 
--- the lowest layer with a mask
-low-here : (c : tie.After-level Inv-loop μ-loop) → Low (c .before .before .loop .c .masks) 0 4 (c .level .result)
-low-here c = low-at (c .level .ensures)
+-- a turn, from the loop's test to the one after the words are read
+abbrev in-of : tie.After-if12 Inv-loop μ-loop → tie.In-loop Inv-loop μ-loop
+in-of c = c .before .before .before
 
-low-zero : (c : tie.Then1 Inv-loop μ-loop) → Low (c .before .before .before .loop .c .masks) 0 4 0
-low-zero c = subst (Low (c .before .before .before .loop .c .masks) 0 4) (c .if1 .taken) (low-here (c .before))
+filling-here : (c : tie.After-if12 Inv-loop μ-loop)
+    → let l = in-of c .before in
+    let a = l .before .before .before .before .before .args in
+    let d = c .before .before .sink .result in
+    Filling (parts (a .l0 .now ∷ a .l1 .now ∷ a .l2 .now ∷ [])) 3 (a .budget) (a .self) (a .out .now) (d .cursor) (d .reads) (l .loop .count) (l .loop .out)
+filling-here c = fill-down (in-of c .before .loop .inv) (in-of c .loop-test .taken) (c .before .before .sink .ensures .going)
+
+element-copy-out-if1 : tie.Need-element-copy-out-if1 Inv-loop μ-loop
+element-copy-out-if1 c = search needs
+
+rest-requires : tie.Need-rest-requires Inv-loop μ-loop
+rest-requires c κs = tt
+
+same-length : tie.Need-same-length Inv-loop μ-loop
+same-length c = in-of (c .before .before) .before .loop .inv .long
+
+returns : tie.Need-returns Inv-loop μ-loop
+returns c =
+    let t = c .before in
+    as-batch (c .rest .ensures)
+    (fill-rest (filling-here (t .before)) (in-of (t .before) .loop-test .taken) (t .if1 .taken) (t .before .before .before .sink .ensures .stopped))
 
 place-requires : tie.Need-place-requires Inv-loop μ-loop
-place-requires c κs = bit-at (c .before .before .before .loop .inv .fine) (low-zero c) (omega arith)
+place-requires c κs = tt
+
+cast-out : tie.Need-cast-out Inv-loop μ-loop
+cast-out c = let e = c .before in record { fits = id-small _ (filling-here (e .before) .fine) (e .if1 .left) (c .place .ensures) }
 
 mul-out : tie.Need-mul-out Inv-loop μ-loop
 mul-out c = search needs
 
 slice-write-out : tie.Need-slice-write-out Inv-loop μ-loop
-slice-write-out c = c .before .before .before .loop-test .taken
+slice-write-out c = in-of (c .before .before) .loop-test .taken
 
 hand-requires : tie.Need-hand-requires Inv-loop μ-loop
-hand-requires c κs = low-zero (c .before) .found (omega arith)
+hand-requires c κs = tt
 
 add-count : tie.Need-add-count Inv-loop μ-loop
-add-count c = omega (arith, c .before .before .before .before .loop-test .taken)
+add-count c = omega (arith, in-of (c .before .before .before) .loop-test .taken)
 
 loop-less : tie.Need-loop-less Inv-loop μ-loop
 loop-less c =
-    let i = c .before .before .before .before in
+    let i = in-of (c .before .before .before) in
     omega (arith, i .loop-test .taken, i .before .loop .inv .long)
 
 loop-again : tie.Need-loop-again Inv-loop μ-loop
 loop-again c =
-    let t = c .before .before in
-    let i = t .before .before in
-    fill-again (i .before .loop .inv) (i .loop-test .taken) (low-zero t) (c .hand .result) (c .before .place .result) (c .hand .ensures) (c .before .place .ensures .here)
-
-same-length : tie.Need-same-length Inv-loop μ-loop
-same-length c = c .before .before .before .before .loop .inv .long
-
-returns : tie.Need-returns Inv-loop μ-loop
-returns c =
-    let l = c .before .before in
-    let i = l .before in
-    fill-end (i .before .loop .inv) (i .loop-test .taken) (subst (Low (i .before .loop .c .masks) 0 4) (c .if2 .taken) (low-here l))
-
--- past the tests of 0 and 4 the layer is 1, 2 or 3
-between : (c : tie.Else2 Inv-loop μ-loop) → (0 < c .before .before .level .result) × (c .before .before .level .result < 4)
-between c = omega (arith, low-here (c .before .before) .last, c .before .if1 .left, c .if2 .left)
-
-same-length-2 : tie.Need-same-length-2 Inv-loop μ-loop
-same-length-2 c = c .before .before .before .before .before .loop .inv .long
-
-returns-2 : tie.Need-returns-2 Inv-loop μ-loop
-returns-2 c =
-    let e = c .before in
-    let l = e .before .before in
-    let i = l .before in
-    fill-pause (i .before .loop .inv) (i .loop-test .taken) (low-here l) (between e .0) (between e .1) (c .if3 .taken)
-
-down-requires : tie.Need-down-requires Inv-loop μ-loop
-down-requires c κs =
-    let e = c .before in
-    let l = e .before .before in
-    let i = l .before in
-    (i .before .before .before .before .pre .0, between e .0, bit-at (i .before .loop .inv .fine) (low-here l) (between e .1))
-
-add-spent : tie.Need-add-spent Inv-loop μ-loop
-add-spent c =
-    let e = c .before in
-    omega (arith, e .before .before .before .before .before .loop .inv .spent, e .if3 .left)
-
-loop-less-2 : tie.Need-loop-less-2 Inv-loop μ-loop
-loop-less-2 c =
-    let e = c .before in
-    omega (arith, e .before .before .before .before .before .loop .inv .spent, e .if3 .left)
-
-loop-again-2 : tie.Need-loop-again-2 Inv-loop μ-loop
-unfolding top
-loop-again-2 c =
     let p = c .before in
     let e = p .before in
-    let l = e .before .before in
-    let i = l .before in
-    fill-down (i .before .loop .inv) (i .loop-test .taken) (low-here l) (between e .0) (between e .1) (p .if3 .left) (c .down .result) (c .down .ensures .cursor) (c .down .ensures .fine)
+    fill-again (filling-here (e .before)) (in-of (e .before) .loop-test .taken) (e .if1 .left) (c .hand .result) (p .place .result) (c .hand .ensures) (p .place .ensures .0)
 
-same-length-3 : tie.Need-same-length-3 Inv-loop μ-loop
-same-length-3 c = c .before .loop .inv .long
+batch-requires : tie.Need-batch-requires Inv-loop μ-loop
+batch-requires c κs = tt
 
-returns-3 : tie.Need-returns-3 Inv-loop μ-loop
-returns-3 c = fill-full (c .before .loop .inv) (c .loop-test .left)
+same-length-2 : tie.Need-same-length-2 Inv-loop μ-loop
+same-length-2 c = c .before .before .loop .inv .long
+
+returns-2 : tie.Need-returns-2 Inv-loop μ-loop
+returns-2 c = as-batch (c .batch .ensures) (fill-full (c .before .before .loop .inv) (c .before .loop-test .left))
 
 pub fill-in-spec : {M : Type 1} → statement M
 fill-in-spec =
@@ -120,21 +94,19 @@ fill-in-spec =
     Inv-loop
     μ-loop
     loop-holds
-    level-requires
+    sink-requires
+    element-copy-out-if1
+    rest-requires
+    same-length
+    returns
     place-requires
+    cast-out
     mul-out
     slice-write-out
     hand-requires
     add-count
     loop-less
     loop-again
-    same-length
-    returns
+    batch-requires
     same-length-2
-    returns-2
-    down-requires
-    add-spent
-    loop-less-2
-    loop-again-2
-    same-length-3
-    returns-3)
+    returns-2)

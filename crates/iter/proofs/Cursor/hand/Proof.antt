@@ -10,8 +10,8 @@ use Rattle.iter.proofs.Cursor.hand.Tie as tie
 element-copy-out-m : tie.Need-element-copy-out-m
 element-copy-out-m c = search needs
 
-less-requires : tie.Need-less-requires
-less-requires c κs = search needs
+drop-lowest-requires : tie.Need-drop-lowest-requires
+drop-lowest-requires c κs = search needs
 
 element-write-c : tie.Need-element-write-c
 element-write-c c = search needs
@@ -20,7 +20,7 @@ returns : tie.Need-returns
 unfolding handed less
 returns c =
     let a = c .before .before .args in
-    ap (λ (x : ℕ). record { masks = set (a .self .masks) 0 x; prefix = a .self .prefix }) (c .less .ensures)
+    ap (λ (x : ℕ). record { masks = set (a .self .masks) 0 x; prefix = a .self .prefix }) (c .drop-lowest .ensures)
 
 pub hand-spec : {M : Type 1} → statement M
-hand-spec = tie.close (tie.spec element-copy-out-m less-requires element-write-c returns)
+hand-spec = tie.close (tie.spec element-copy-out-m drop-lowest-requires element-write-c returns)

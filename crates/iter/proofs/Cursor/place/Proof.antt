@@ -1,57 +1,62 @@
 -- `iter::Cursor::place` meets its contract. Assumes nothing.
+use Prim.Native.Nat.{_%_}
 use native.Mathlib.Omega.{arith}
+use Rattle.iter.specs.Walk.{placeAt}
+use Rattle.iter.proofs.Cursors.{prefix-below, prefix-top}
 use borrow.Author.Needs.{needs}
-use lib.ListN.{getD}
-use Prim.Native.Nat.{_+_}
-use Rattle.iter.specs.Steps.{Placed}
-use Rattle.iter.proofs.Cursors.{placed-top, placed-below, placed-small}
 use Rattle.iter.proofs.Cursor.place.Statement.{statement}
 use Rattle.iter.proofs.Cursor.place.Tie as tie
+use Rattle.iter.proofs.behind.Reads as behind-reads
 
-mul-first-bit : tie.Need-mul-first-bit
-mul-first-bit c = search needs
+mul-behind : tie.Need-mul-behind
+mul-behind c = search needs
 
-array-read-first-bit : tie.Need-array-read-first-bit
-array-read-first-bit c = search needs
+array-read-behind : tie.Need-array-read-behind
+array-read-behind c = search needs
 
-first-bit-requires : tie.Need-first-bit-requires
-first-bit-requires c κs = search needs
+behind-requires : tie.Need-behind-requires
+behind-requires c κs = search needs
 
 returns : tie.Need-returns
+unfolding placeAt
 returns c =
-    let b = c .before in
-    placed-top (b .before .before .pre) _ (c .if1 .taken) (b .first-bit .ensures .0) (b .first-bit .ensures .1)
+    let a = c .before .before .before .args in
+    let e = c .behind .ensures in
+    (omega (arith, e .0, prefix-top 3 (a .self .prefix) (a .k % 4) (omega (arith, c .before .if1 .taken))), e .1)
 
-mul-result : tie.Need-mul-result
-mul-result c = search needs
+mul-behind-2 : tie.Need-mul-behind-2
+mul-behind-2 c = search needs
 
-array-read-result : tie.Need-array-read-result
-array-read-result c = search needs
+array-read-behind-2 : tie.Need-array-read-behind-2
+array-read-behind-2 c = search needs
 
--- below the top, the prefix and the bit
-here : (c : tie.After-prefix)
-    → let b = c .before .before in
-    let a = b .before .before .args in
-    Placed 3 (a .self) (a .k) (getD (a .self .prefix) (a .k) 0 + b .first-bit .result)
-here c =
-    let b = c .before .before in
-    placed-below (b .before .before .pre) _ (c .before .if1 .left) (b .first-bit .ensures .0) (b .first-bit .ensures .1)
+mul-behind-3 : tie.Need-mul-behind-3
+mul-behind-3 c = search needs
 
-add-result : tie.Need-add-result
-add-result c = record { fits = omega (arith, placed-small (here c) .0) }
+array-read-behind-3 : tie.Need-array-read-behind-3
+array-read-behind-3 c = search needs
+
+behind-requires-2 : tie.Need-behind-requires-2
+behind-requires-2 c κs = search needs
 
 returns-2 : tie.Need-returns-2
-returns-2 c = here c
+unfolding placeAt
+returns-2 c =
+    let a = c .before .before .before .before .args in
+    let e = c .behind2 .ensures in
+    (omega (arith, e .0, prefix-below 3 (a .self .prefix) (a .k % 4) (omega (arith, c .before .before .if1 .left))), e .1)
 
 pub place-spec : {M : Type 1} → statement M
 place-spec =
     tie.close
     (tie.spec
-    mul-first-bit
-    array-read-first-bit
-    first-bit-requires
+    mul-behind
+    array-read-behind
+    behind-requires
     returns
-    mul-result
-    array-read-result
-    add-result
+    mul-behind-2
+    array-read-behind-2
+    mul-behind-3
+    array-read-behind-3
+    behind-requires-2
     returns-2)

@@ -14,14 +14,15 @@ use lib.ListN.{getD}
 use lib.Seq.{getD-set-same, getD-set-other}
 use Rattle.util.specs.Word.{bits}
 use Rattle.util.proofs.Places.{bits-zero, bits-lowest, lowest}
 use Rattle.iter.specs.declared.Cursor.{Cursor}
 use Rattle.iter.specs.declared.Next.{Next}
 use Rattle.iter.specs.declared.Next.the-variants.{Member, Paused, End, Refused}
 use Rattle.iter.specs.declared.Step.{Step}
 use Rattle.iter.specs.Under.{joined, summed, under, readsUnder, allIds, allReads}
 use Rattle.iter.specs.Walk.{lowLayer, kindOf, kind, prefixAt, placeAt, cleared, less, handed, paused, ended, more, byKind, startAt, descend, next, Run, onward, runBy, walk}
 use Rattle.iter.specs.Walk.Kind.{reads, done}
-use Rattle.iter.proofs.Cursors.{Low, low-found, prefix-top, Wf, taken-mask, taken-prefix, taken-mask-up, taken-mask-else, taken-prefix-else, taken-wf, handed-wf, start-mask, start-below}
+use Rattle.iter.proofs.Cursors.{Low, low-found, prefix-top}
+use Rattle.demand.proofs.Taken.{Wf, taken-mask, taken-prefix, taken-mask-up, taken-mask-else, taken-prefix-else, taken-wf, handed-wf, start-mask, start-below}
 
 -- ---- one mask
 

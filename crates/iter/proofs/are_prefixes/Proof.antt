@@ -1,10 +1,10 @@
--- `iter::fits` meets its contract. Assumes nothing.
+-- `iter::are_prefixes` meets its contract. Assumes nothing.
 use mathlib.Core.Path.{sym, _∙_}
 use borrow.Author.Needs.{needs}
 use borrow.Author.Tests.{not-true, not-false}
 use Rattle.iter.specs.Calls.{prefixesFit}
-use Rattle.iter.proofs.fits.Statement.{statement}
-use Rattle.iter.proofs.fits.Tie as tie
+use Rattle.iter.proofs.are_prefixes.Statement.{statement}
+use Rattle.iter.proofs.are_prefixes.Tie as tie
 
 is-prefix-requires : tie.Need-is-prefix-requires
 is-prefix-requires c κs = search needs
@@ -33,7 +33,7 @@ returns-3 c =
     c .is-prefix3 .ensures
     ∙ sym (rw (sym (e .before .is-prefix .ensures) ∙ not-false _ (e .if1 .left), sym (f .before .is-prefix2 .ensures) ∙ not-false _ (f .if2 .left)))
 
-pub fits-spec : {M : Type 1} → statement M
-fits-spec =
+pub are-prefixes-spec : {M : Type 1} → statement M
+are-prefixes-spec =
     tie.close
     (tie.spec is-prefix-requires returns is-prefix-requires-2 returns-2 is-prefix-requires-3 returns-3)

@@ -1,0 +1,34 @@
+-- `iter::Cursor::read` meets its contract. Assumes nothing.
+use mathlib.Core.Path.{_≡_, sym, ap, _∙_, subst}
+use Prim.Native.Nat.{ℕ, suc, _+_, _%_, _<_}
+use native.Mathlib.Omega.{arith}
+use lib.ListN.{getD}
+use Rattle.iter.proofs.Cursors.{descended}
+use borrow.Author.Needs.{needs}
+use Rattle.iter.proofs.Cursor.read.Statement.{statement}
+use Rattle.iter.proofs.Cursor.read.Tie as tie
+use Rattle.iter.proofs.Cursor.handle_level.Reads as handle-level-reads
+use Rattle.iter.proofs.Cursor.place.Reads as place-reads
+use Rattle.store.proofs.get.Reads as get-reads
+
+add-place : tie.Need-add-place
+add-place c = search needs
+
+place-requires : tie.Need-place-requires
+place-requires c κs = search needs
+
+get-requires : tie.Need-get-requires
+get-requires c κs = search needs
+
+handle-level-requires : tie.Need-handle-level-requires
+handle-level-requires c κs = search needs
+
+returns : tie.Need-returns
+returns c =
+    let p = c .before .before in
+    let s = p .before .before in
+    descended (s .args .layer .now) (s .pre .0) (s .pre .1) (s .pre .2) (p .place .ensures) (c .before .get .ensures) (c .handle-level .ensures)
+
+pub read-spec : {M : Type 1} → statement M
+read-spec =
+    tie.close (tie.spec add-place place-requires get-requires handle-level-requires returns)
