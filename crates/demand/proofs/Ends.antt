@@ -10,7 +10,7 @@ use Rattle.iter.specs.declared.Cursor.{Cursor}
 use Rattle.iter.specs.declared.Next.{Next}
 use Rattle.iter.specs.declared.Next.the-variants.{Paused}
 use Rattle.iter.specs.declared.Step.{Step}
-use Rattle.iter.specs.Under.{allIds, allReads}
+use Rattle.demand.specs.Under.{allIds, allReads}
 use Rattle.iter.specs.Walk.{Kind, kind, paused as before, more, byKind, startAt, descend, next, Run, onward, runBy, walk}
 use Rattle.iter.specs.Walk.Kind.{gives, reads, done}
 use Rattle.demand.proofs.Taken.{Wf, start-wf}

@@ -3,7 +3,7 @@ use mathlib.Core.Path.{_≡_, refl}
 use Prim.Native.Nat.{ℕ, zero, suc, _+_, _*_, _≤_, _<_}
 use native.Mathlib.Omega.{arith}
 use Rattle.util.specs.Word.{bit, keep, places, bits}
-use Rattle.iter.specs.Under.{summed, readsUnder, allReads}
+use Rattle.demand.specs.Under.{summed, readsUnder, allReads}
 use Rattle.demand.specs.Walks.{Within}
 
 -- a sum grows with its places and its summands

@@ -17,7 +17,7 @@ use Rattle.iter.specs.declared.Stop.{Stop}
 use Rattle.iter.specs.declared.Stop.the-variants.{Full, Paused as StopPaused, End as StopEnd, Refused as StopRefused}
 use Rattle.iter.specs.Calls.{Fine, startIn}
 use Rattle.iter.specs.Fill.{Filled, goOn, fillFrom}
-use Rattle.iter.specs.Under.{allIds, allReads}
+use Rattle.demand.specs.Under.{allIds, allReads}
 use Rattle.iter.specs.Walk.{startAt, next, Run}
 use Rattle.iter.proofs.Answers.{start-is}
 use Rattle.iter.proofs.Cursors.{fit-of}

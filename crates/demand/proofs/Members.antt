@@ -7,7 +7,7 @@ use native.Mathlib.Nat.{pow-suc, mul-comm, mul-assoc, add-mul, suc-mul, add-asso
 use native.Mathlib.Omega.{arith}
 use Rattle.util.specs.Word.{bit, keep, places, bits}
 use Rattle.util.proofs.Places.{places-none, places-append, bits-zero}
-use Rattle.iter.specs.Under.{joined, under, allIds}
+use Rattle.demand.specs.Under.{joined, under, allIds}
 use Rattle.demand.specs.Walks.{onAt, Clear}
 
 -- f at each of the n numbers from b on, joined

@@ -18,7 +18,7 @@ use Rattle.iter.specs.declared.Cursor.{Cursor}
 use Rattle.iter.specs.declared.Next.{Next}
 use Rattle.iter.specs.declared.Next.the-variants.{Member, Paused, End, Refused}
 use Rattle.iter.specs.declared.Step.{Step}
-use Rattle.iter.specs.Under.{joined, summed, under, readsUnder, allIds, allReads}
+use Rattle.demand.specs.Under.{joined, summed, under, readsUnder, allIds, allReads}
 use Rattle.iter.specs.Walk.{lowLayer, kindOf, kind, prefixAt, placeAt, cleared, less, handed, paused, ended, more, byKind, startAt, descend, next, Run, onward, runBy, walk}
 use Rattle.iter.specs.Walk.Kind.{reads, done}
 use Rattle.iter.proofs.Cursors.{Low, low-found, prefix-top}

@@ -19,7 +19,7 @@ use Rattle.iter.specs.declared.Next.{Next}
 use Rattle.iter.specs.declared.Next.the-variants.{Member as MemberOf, Paused, End, Refused}
 use Rattle.iter.specs.declared.Step.{Step}
 use Rattle.iter.specs.Calls.{Fine, startIn}
-use Rattle.iter.specs.Under.{allIds, allReads}
+use Rattle.demand.specs.Under.{allIds, allReads}
 use Rattle.iter.specs.Walk.{startAt, next, Run, onward, runBy, walk}
 use Rattle.iter.proofs.Answers.{start-is, next-runs}
 use Rattle.iter.proofs.Cursors.{fit-of}

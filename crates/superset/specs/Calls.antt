@@ -8,7 +8,7 @@ use Rattle.store.specs.Answer.{says, refuses}
 use Rattle.store.specs.Layout.{top, cap, isStore}
 use Rattle.store.specs.Word.{word}
 use Rattle.bitset.specs.Edit.{holds}
-use Rattle.iter.specs.Under.{allIds}
+use Rattle.demand.specs.Under.{allIds}
 
 -- "An id is a member if it is below N and its layer-0 bit is set."
 unfoldable pub isMember : List ℕ → ℕ → Bool
