@@ -9,7 +9,8 @@ use borrow.Author.Tests.{lt-ltb, le-ltb, ne-eqb}
 use lib.Dec.{ltb}
 use lib.ListN.{length}
 use Rattle.desk.specs.Slots.{numberOf, partOf}
-use Rattle.said.specs.Numbers.{unknown, rowOf, listedOf, lineOf, Left, left}
+use Rattle.said.specs.Numbers.{unknown, Left, left}
+use Rattle.rows.specs.Lines.{rowOf, listedOf, lineOf}
 use Rattle.said.specs.declared.Said.{Said}
 use Rattle.calls.specs.Calls.{callOf}
 use Rattle.answers.specs.Calls.{dump, isDump, dumpOf, printedOf, deskOf}

@@ -6,7 +6,8 @@ use Prim.Native.Nat.{ℕ}
 use lib.Dec.{eqb, ltb}
 use lib.ListN.{length}
 use Rattle.desk.specs.Slots.{numberOf, isSlot, partOf}
-use Rattle.said.specs.Numbers.{unknown, listedOf, lineOf}
+use Rattle.said.specs.Numbers.{unknown}
+use Rattle.rows.specs.Lines.{listedOf, lineOf}
 use Rattle.calls.specs.Calls.{callOf}
 
 -- the command word, a letter a byte, the first the highest

@@ -31,9 +31,9 @@ fn dump(buf: &mut [u8], at: usize, part: &[u64], line: u64) -> usize
         return text::put_all(buf, at, b"none\n");
     }
     if MOST < n {
-        return said::put_said(buf, at, said::unknown(), line);
+        return rows::put_said(buf, at, said::unknown(), line);
     }
-    said::put_row(buf, at, part)
+    rows::put_row(buf, at, part)
 }
 
 // The answer to line `line` is put into the buffer.
@@ -51,5 +51,5 @@ pub fn answer(
     if is_dump(word, count, s) {
         return dump(buf, at, desk::part(desk, s), line);
     }
-    said::put_said(buf, at, calls::call(desk, word, count), line)
+    rows::put_said(buf, at, calls::call(desk, word, count), line)
 }

@@ -36,6 +36,6 @@ pub(crate) fn reply(
         Command::Remove(i) => lines::put_reply(buf, at, b'r', i, bitset::remove(store, i)),
         Command::Contains(i) => lines::put_reply(buf, at, b'c', i, bitset::contains(store, i)),
         Command::List => members(store, buf, at),
-        Command::Unknown => said::put_unknown(buf, at, number),
+        Command::Unknown => rows::put_unknown(buf, at, number),
     }
 }

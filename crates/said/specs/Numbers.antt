@@ -1,11 +1,7 @@
--- The numbers that a call says, and the line that is printed of them (docs/REPLAY.md).
-use mathlib.Core.Bool.{cond}
-use mathlib.Core.List.{List, [], _∷_, _++_}
+-- The numbers that a call says (docs/REPLAY.md).
+use mathlib.Core.List.{List, [], _∷_}
 use Prim.Native.Nat.{ℕ}
-use lib.Dec.{ltb}
-use lib.ListN.{take}
 use Rattle.util.specs.Outcome.{Outcome}
-use Rattle.text.specs.Out.{decimalOf}
 use Rattle.said.specs.declared.Said.{Said}
 
 abbrev pub oneOf : ℕ → Said
@@ -35,25 +31,3 @@ left n l = record { said = n; lent = l }
 
 abbrev pub leftOf : Outcome (List ℕ) → Left
 leftOf o = left (saidOf (o .numbers)) (o .lent)
-
--- what stands behind a number: a blank where others follow, else the line's end
-abbrev pub behindOf : List ℕ → ℕ
-behindOf [] = 10
-behindOf (n ∷ l) = 32
-
--- "The answer's numbers are printed one blank apart"
-unfoldable pub rowOf : List ℕ → List ℕ
-rowOf [] = []
-rowOf (n ∷ l) = decimalOf n ++ (behindOf l ∷ rowOf l)
-
--- "and `none` where it has none"
-abbrev pub listedOf : List ℕ → List ℕ
-listedOf [] = 110 ∷ 111 ∷ 110 ∷ 101 ∷ 10 ∷ []
-listedOf (n ∷ l) = rowOf (n ∷ l)
-
--- "Any other line .. prints `?`, a blank and the line's number from 1."
-unfoldable pub lineOf : Said → ℕ → List ℕ
-lineOf s line =
-    cond (ltb (s .count) 4)
-    (listedOf (take (s .count) (s .a ∷ s .b ∷ s .c ∷ [])))
-    (63 ∷ 32 ∷ (decimalOf line ++ (10 ∷ [])))

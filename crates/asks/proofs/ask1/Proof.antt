@@ -1,7 +1,7 @@
 -- `asks::ask1` meets its contract. Assumes nothing.
 use mathlib.Core.Path.{_∙_}
 use native.Mathlib.Omega.{arith}
-use Rattle.said.proofs.Rows.{says}
+use Rattle.said.proofs.Told.{says}
 use Rattle.asks.proofs.Arms.{one-isempty, one-sound, one-free, one-other}
 use borrow.Author.Needs.{needs}
 use Rattle.asks.proofs.ask1.Statement.{statement}

@@ -1,7 +1,7 @@
 -- `asks::both` meets its contract. Assumes nothing.
 use mathlib.Core.Path.{_∙_}
 use native.Mathlib.Omega.{arith}
-use Rattle.said.proofs.Rows.{says}
+use Rattle.said.proofs.Told.{says}
 use Rattle.asks.proofs.Arms.{both-equal, both-superset, both-other}
 use borrow.Author.Needs.{needs}
 use Rattle.asks.proofs.both.Statement.{statement}

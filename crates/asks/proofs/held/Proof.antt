@@ -1,6 +1,6 @@
 -- `asks::held` meets its contract. Assumes nothing.
 use mathlib.Core.Path.{_∙_}
-use Rattle.said.proofs.Rows.{says}
+use Rattle.said.proofs.Told.{says}
 use Rattle.asks.proofs.Arms.{held-in, held-no}
 use borrow.Author.Needs.{needs}
 use Rattle.asks.proofs.held.Statement.{statement}

@@ -2,7 +2,7 @@
 use mathlib.Core.Path.{ap, _∙_}
 use Rattle.util.specs.Average.{paper}
 use Rattle.said.specs.Numbers.{saidOf}
-use Rattle.said.proofs.Rows.{told}
+use Rattle.said.proofs.Told.{told}
 use borrow.Author.Needs.{needs}
 use Rattle.bits.proofs.average.Statement.{statement}
 use Rattle.bits.proofs.average.Tie as tie

@@ -1,5 +1,5 @@
 -- `lists::add_ids` meets its contract. Assumes nothing.
-use Rattle.said.proofs.Rows.{leaves}
+use Rattle.said.proofs.Told.{leaves}
 use Rattle.lists.proofs.Arms.{added}
 use borrow.Author.Needs.{needs}
 use Rattle.lists.proofs.add_ids.Statement.{statement}

@@ -1,6 +1,6 @@
 -- `looks::ask3` meets its contract. Assumes nothing.
 use mathlib.Core.Path.{_∙_}
-use Rattle.said.proofs.Rows.{says}
+use Rattle.said.proofs.Told.{says}
 use Rattle.looks.proofs.Arms.{three-word, three-other}
 use borrow.Author.Needs.{needs}
 use Rattle.looks.proofs.ask3.Statement.{statement}

@@ -2,7 +2,7 @@
 use mathlib.Core.Path.{ap, _∙_}
 use Rattle.store.specs.Answer.{askedPaper}
 use Rattle.said.specs.Numbers.{twoOf}
-use Rattle.said.proofs.Rows.{told}
+use Rattle.said.proofs.Told.{told}
 use borrow.Author.Needs.{needs}
 use Rattle.said.proofs.asked.Statement.{statement}
 use Rattle.said.proofs.asked.Tie as tie

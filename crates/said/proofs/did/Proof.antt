@@ -1,6 +1,6 @@
 -- `said::did` meets its contract. Assumes nothing.
 use Rattle.store.specs.Answer.{didPaper}
-use Rattle.said.proofs.Rows.{told}
+use Rattle.said.proofs.Told.{told}
 use borrow.Author.Needs.{needs}
 use Rattle.said.proofs.did.Statement.{statement}
 use Rattle.said.proofs.did.Tie as tie

@@ -1,6 +1,6 @@
 -- `said::found` meets its contract. Assumes nothing.
 use Rattle.store.specs.Answer.{foundPaper}
-use Rattle.said.proofs.Rows.{told}
+use Rattle.said.proofs.Told.{told}
 use borrow.Author.Needs.{needs}
 use Rattle.said.proofs.found.Statement.{statement}
 use Rattle.said.proofs.found.Tie as tie

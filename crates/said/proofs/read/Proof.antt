@@ -1,6 +1,6 @@
 -- `said::read` meets its contract. Assumes nothing.
 use Rattle.store.specs.Answer.{readPaper}
-use Rattle.said.proofs.Rows.{told}
+use Rattle.said.proofs.Told.{told}
 use borrow.Author.Needs.{needs}
 use Rattle.said.proofs.read.Statement.{statement}
 use Rattle.said.proofs.read.Tie as tie

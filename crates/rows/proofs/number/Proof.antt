@@ -1,8 +1,8 @@
--- `said::number` meets its contract. Assumes nothing.
+-- `rows::number` meets its contract. Assumes nothing.
 use Rattle.text.proofs.Out.{put-behind}
 use borrow.Author.Needs.{needs}
-use Rattle.said.proofs.number.Statement.{statement}
-use Rattle.said.proofs.number.Tie as tie
+use Rattle.rows.proofs.number.Statement.{statement}
+use Rattle.rows.proofs.number.Tie as tie
 
 put-number-requires : tie.Need-put-number-requires
 put-number-requires c κs = search needs

@@ -1,8 +1,8 @@
--- `said::put_unknown` meets its contract. Assumes nothing.
+-- `rows::put_unknown` meets its contract. Assumes nothing.
 use Rattle.text.proofs.Out.{put-front}
 use borrow.Author.Needs.{needs}
-use Rattle.said.proofs.put_unknown.Statement.{statement}
-use Rattle.said.proofs.put_unknown.Tie as tie
+use Rattle.rows.proofs.put_unknown.Statement.{statement}
+use Rattle.rows.proofs.put_unknown.Tie as tie
 
 put-requires : tie.Need-put-requires
 put-requires c κs = search needs

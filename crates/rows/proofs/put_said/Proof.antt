@@ -1,12 +1,12 @@
--- `said::put_said` meets its contract. Assumes nothing.
+-- `rows::put_said` meets its contract. Assumes nothing.
 use mathlib.Core.Path.{sym, ap, _∙_}
 use native.Mathlib.Omega.{arith}
 use lib.Seq.{length-take-le}
 use Rattle.text.specs.Out.{putAllOf}
-use Rattle.said.proofs.Rows.{line-unknown, line-none, line-row}
+use Rattle.rows.proofs.Rows.{line-unknown, line-none, line-row}
 use borrow.Author.Needs.{needs}
-use Rattle.said.proofs.put_said.Statement.{statement}
-use Rattle.said.proofs.put_said.Tie as tie
+use Rattle.rows.proofs.put_said.Statement.{statement}
+use Rattle.rows.proofs.put_said.Tie as tie
 
 put-unknown-requires : tie.Need-put-unknown-requires
 put-unknown-requires c κs = search needs

@@ -1,6 +1,6 @@
--- Numbers of an answer, and numbers put into a buffer one after the other.
+-- Numbers put into a buffer one after the other, and what is printed of what was said.
 use mathlib.Core.List.{List, [], _∷_, _++_, append-assoc}
-use mathlib.Core.Path.{_≡_, refl, sym, ap, ap₂, _∙_}
+use mathlib.Core.Path.{_≡_, refl, sym, ap, _∙_}
 use mathlib.Core.Bool.{cond}
 use Prim.Native.Nat.{ℕ, zero, suc, _+_, _≤_, _<_}
 use native.Mathlib.Decide.{decLt}
@@ -10,24 +10,10 @@ use native.Mathlib.Omega.{arith}
 use native.Mathlib.Numerals.{add-one}
 use lib.ListN.{length, take, drop, getD, drop-of-length-le}
 use lib.Seq.{drop-cons, drop-length}
-use Rattle.util.specs.Outcome.{Paper, Outcome, Settled}
 use Rattle.text.specs.Out.{Held, held, putAllOf, decimalOf}
 use Rattle.text.proofs.Out.{put-append}
-use Rattle.said.specs.Numbers.{left, leftOf, saidOf, behindOf, rowOf, listedOf, lineOf}
 use Rattle.said.specs.declared.Said.{Said}
-
--- the numbers of an answer that is known
-pub told : {R : Type 0} (p : Paper R) {r r′ : R} {n : Said} → n ≡ saidOf (p .numbers r′) → r ≡ r′ → n ≡ saidOf (p .numbers r)
-told p e same = e ∙ ap (λ (x : _). saidOf (p .numbers x)) (sym same)
-
--- what is said of a call's answer is said of its outcome's numbers
-pub says : {R X : Type 0} {p : Paper R} {o : Outcome X} {r : R} {x : X} {n : Said} → n ≡ saidOf (p .numbers r) → Settled p o r x → n ≡ saidOf (o .numbers)
-says e c = e ∙ ap saidOf (c .answer)
-
--- the same of a call that writes to what it was lent
-pub leaves : {R : Type 0} {p : Paper R} {o : Outcome (List ℕ)} {r : R} {l : List ℕ} {n : Said} → n ≡ saidOf (p .numbers r) → Settled p o r l
-    → left n l ≡ leftOf o
-leaves e c = ap₂ left (says e c) (c .memory)
+use Rattle.rows.specs.Lines.{behindOf, rowOf, listedOf, lineOf}
 
 -- The loop: what is left, put behind what was put, is the whole.
 pub record Putting (buf₀ : List ℕ) (at : ℕ) (list buf : List ℕ) (filled i : ℕ) : Type 0 where

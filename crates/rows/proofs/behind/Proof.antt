@@ -1,8 +1,8 @@
--- `said::behind` meets its contract. Assumes nothing.
+-- `rows::behind` meets its contract. Assumes nothing.
 use mathlib.Core.Path.{sym}
 use borrow.Author.Tests.{lt-ltb, le-ltb}
-use Rattle.said.proofs.behind.Statement.{statement}
-use Rattle.said.proofs.behind.Tie as tie
+use Rattle.rows.proofs.behind.Statement.{statement}
+use Rattle.rows.proofs.behind.Tie as tie
 
 returns : tie.Need-returns
 returns c = sym (rw (lt-ltb _ _ (c .if1 .taken)))

@@ -1,10 +1,10 @@
--- `said::put_row` meets its contract: what is left, put behind what was put, is the whole. Assumes nothing.
+-- `rows::put_row` meets its contract: what is left, put behind what was put, is the whole. Assumes nothing.
 use Prim.Native.Nat.{_-_}
 use lib.ListN.{length}
-use Rattle.said.proofs.Rows.{Putting, puts-none, puts-turn, puts-end}
+use Rattle.rows.proofs.Rows.{Putting, puts-none, puts-turn, puts-end}
 use borrow.Author.Needs.{needs}
-use Rattle.said.proofs.put_row.Statement.{statement}
-use Rattle.said.proofs.put_row.Tie as tie
+use Rattle.rows.proofs.put_row.Statement.{statement}
+use Rattle.rows.proofs.put_row.Tie as tie
 
 abbrev Inv-loop : tie.InvT-loop
 Inv-loop buf₀ at list a₀ i₀ buf a i = Putting buf₀ at list buf a i
