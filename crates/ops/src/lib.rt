@@ -1,7 +1,7 @@
 // Or, and, xor of two stores of equal capacity, in place: the Rust's ops.rs, `BitOrAssign`, `BitAndAssign`, `BitXorAssign`. One body for
 // the three, told which. No work is done under a clear summary bit of the side that decides.
 ghost use mathlib.Core.Path.{_≡_};
-ghost use Prim.Native.Nat.{min};
+ghost use Prim.Native.Nat.{_-_, _<_, min};
 ghost use Rattle.ops.specs.Calls.{Assigned};
 ghost use Rattle.ops.specs.Tree.{Ask, Level};
 use store::Did;
@@ -22,8 +22,28 @@ fn leaves(store: &mut [u64], other: &[u64], n: usize, j: usize, w: u64, m: u64, 
     groups::group(&mut store[a..e], &other[a..e], w, m, op)
 }
 
-// The words of layer k under word j above, and all that stands under them, of which m names those that can change; w is the word above.
-// Answers that word after.
+// All that stands under word j of layer k, above 0, of which m names what can change; w is that word. Answers the word after. The groups
+// of layer 0 are met in the loop itself, and no call is made for each.
+fn under(
+    store: &mut [u64],
+    other: &[u64],
+    n: usize,
+    k: usize,
+    j: usize,
+    w: u64,
+    m: u64,
+    op: u64,
+) -> u64
+    requires { ⌜ (0 < k) × Ask (now store) (now other) n (k - 1) j ⌝ }
+    ensures { λ r. ⌜ Level n op (now (store .entry)) (now (other .entry)) (k - 1) j w m (now (store .exit)) r 0 ⌝ }
+{
+    if k == 1 {
+        return leaves(store, other, n, j, w, m, op);
+    }
+    below(store, other, n, k - 1, j, w, m, op)
+}
+
+// The words of layer k, above 0, under word j above, and all that stands under them, as `under`.
 fn below(
     store: &mut [u64],
     other: &[u64],
@@ -34,12 +54,9 @@ fn below(
     m: u64,
     op: u64,
 ) -> u64
-    requires { ⌜ Ask (now store) (now other) n k j ⌝ }
+    requires { ⌜ (0 < k) × Ask (now store) (now other) n k j ⌝ }
     ensures { λ r. ⌜ Level n op (now (store .entry)) (now (other .entry)) k j w m (now (store .exit)) r 0 ⌝ }
 {
-    if k == 0 {
-        return leaves(store, other, n, j, w, m, op);
-    }
     let a = store::end(n, k + 1);
     let e = store::end(n, k);
     let mut over = w;
@@ -49,7 +66,7 @@ fn below(
         let c = j * 64 + t;
         let x = store::get(&store[a..e], c);
         let y = groups::moving(op, x, store::get(&other[a..e], c));
-        let z = below(store, other, n, k - 1, c, x, y, op);
+        let z = under(store, other, n, k, c, x, y, op);
         store::put(&mut store[a..e], c, z);
         over = util::with_bit(over, t, z != 0);
         left = util::with_bit(left, t, false);

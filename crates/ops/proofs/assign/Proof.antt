@@ -1,4 +1,5 @@
 -- `ops::assign` meets its contract. Assumes nothing.
+use native.Mathlib.Omega.{arith}
 use borrow.Author.Needs.{needs}
 use Rattle.store.specs.Layout.{StoreOf}
 use Rattle.store.proofs.Ends.{some-store, no-store}
@@ -47,7 +48,7 @@ returns-3 c =
     differ-5 (a .store .now) (a .other .now) (first (e .before .before)) (second e) (c .if3 .taken)
 
 below-requires : tie.Need-below-requires
-below-requires c κs = let n = c .before in ask-top (first (n .before .before .before)) (second (n .before)) (n .if3 .left)
+below-requires c κs = let n = c .before in (omega arith, ask-top (first (n .before .before .before)) (second (n .before)) (n .if3 .left))
 
 same-length-4 : tie.Need-same-length-4
 same-length-4 c = c .before .before .below .ensures .long

@@ -1,4 +1,4 @@
--- `ops::below` meets its contract: each turn does one named word and all under it, one layer down. Assumes nothing.
+-- `ops::below` and `ops::under` meet their contracts: each turn does one named word and all under it, one layer down. Assumes nothing.
 use mathlib.Core.Path.{_≡_, refl, sym, ap, _∙_}
 use Prim.Native.Nat.{ℕ, _+_, _-_, _*_, _^_, _≤_, _<_}
 use native.Mathlib.Omega.{arith}
@@ -14,25 +14,37 @@ use Rattle.ops.specs.Tree.{Ask, Level}
 use Rattle.ops.proofs.Steps.{top-is, level-start, level-end, small-ask, store-here, ask-child, inside, ordered, near, inside-both, level-turn, ask-zero, level-zero}
 use Rattle.ops.proofs.below.Reads as below
 use Rattle.ops.proofs.below.Kinds as below-kinds
-use Rattle.ops.proofs.+below.Lts-below as lts
+use Rattle.ops.proofs.+below+under.Lts-below as lts
+use Rattle.ops.proofs.under.Reads as under
+use Rattle.ops.proofs.under.Kinds as under-kinds
+use Rattle.ops.proofs.+below+under.Lts-under as under-lts
 use Rattle.groups.proofs.moving.Reads as moving-reads
 use Rattle.ops.proofs.leaves.Reads as leaves-reads
 use Rattle.store.proofs.end.Reads as end-reads
 use Rattle.store.proofs.get.Reads as get-reads
 use Rattle.store.proofs.put.Reads as put-reads
 use Rattle.util.proofs.with_bit.Reads as with-bit-reads
-use Rattle.ops.proofs.+below.{statement}
-use Rattle.ops.proofs.+below.Tie.{close}
+use Rattle.ops.proofs.+below+under.{statement}
+use Rattle.ops.proofs.+below+under.Tie.{close}
 
--- the layer's number gets less
+-- `below` calls `under` for its own layer, and `under` calls `below` for the layer below
 abbrev μ-below : Measures 2 below-kinds.ps ℕ
-μ-below κs a = a .1 .1 .1 .0
+μ-below κs a = 2 * a .1 .1 .1 .0 + 1
+
+abbrev μ-under : Measures 2 under-kinds.ps ℕ
+μ-under κs a = 2 * a .1 .1 .1 .0
 
 abbrev At : ℕ → In 2 below-kinds.ps
 At t = and 2 below-kinds.ps (is 2 below-kinds.ps μ-below t) below.Pre
 
-abbrev Under : ℕ → In 2 below-kinds.ps
-Under t = and 2 below-kinds.ps (falls 2 below-kinds.ps _<_ μ-below t) below.Pre
+abbrev Less : ℕ → In 2 below-kinds.ps
+Less t = and 2 below-kinds.ps (falls 2 below-kinds.ps _<_ μ-below t) below.Pre
+
+abbrev Under-at : ℕ → In 2 under-kinds.ps
+Under-at t = and 2 under-kinds.ps (is 2 under-kinds.ps μ-under t) under.Pre
+
+abbrev Under-less : ℕ → In 2 under-kinds.ps
+Under-less t = and 2 under-kinds.ps (falls 2 under-kinds.ps _<_ μ-under t) under.Pre
 
 abbrev Inv-loop : lts.InvT-loop
 Inv-loop store₀ other n k j w m op a e over₀ left₀ store over left = Level n op store₀ other k j w m store over left
@@ -43,33 +55,53 @@ abbrev μ-loop : lts.MeasureT-loop
 -- what is told of the functions that are called
 abbrev B : ℕ → lts.Claims
 B t = (
-  leaves-reads.Asked,
-  leaves-reads.Learnt,
   end-reads.Asked,
   end-reads.Learnt,
   get-reads.Asked,
   get-reads.Learnt,
   moving-reads.Asked,
   moving-reads.Learnt,
-  Under t,
-  below.Post,
+  Under-less t,
+  under.Post,
   put-reads.Asked,
   put-reads.Learnt,
   with-bit-reads.Asked,
   with-bit-reads.Learnt,
 )
 
-leaves-requires : (t : ℕ) → lts.Need-leaves-requires (B t) (At t) below.Post Inv-loop μ-loop
-leaves-requires t c κs = let d = c .before in ask-zero (d .if1 .taken) (d .before .before .before .pre .1)
+abbrev D : ℕ → under-lts.Claims
+D t = (leaves-reads.Asked, leaves-reads.Learnt, Less t, below.Post)
 
-same-length : (t : ℕ) → lts.Need-same-length (B t) (At t) below.Post Inv-loop μ-loop
-same-length t c = c .before .before .leaves .ensures .long
+-- ---- `under`
 
-returns : (t : ℕ) → lts.Need-returns (B t) (At t) below.Post Inv-loop μ-loop
-returns t c = let l = c .before .before in level-zero (l .before .before .if1 .taken) (l .leaves .ensures)
+leaves-requires : (t : ℕ) → under-lts.Need-leaves-requires (D t) (Under-at t) under.Post
+leaves-requires t c κs = let d = c .before in ask-zero (omega (arith, d .if1 .taken)) (d .before .before .before .pre .1 .1)
+
+leaves-length : (t : ℕ) → under-lts.Need-same-length (D t) (Under-at t) under.Post
+leaves-length t c = c .before .before .leaves .ensures .long
+
+leaves-returns : (t : ℕ) → under-lts.Need-returns (D t) (Under-at t) under.Post
+leaves-returns t c = let l = c .before .before in level-zero (omega (arith, l .before .before .if1 .taken)) (l .leaves .ensures)
+
+sub-below : (t : ℕ) → under-lts.Need-sub-below (D t) (Under-at t) under.Post
+sub-below t c = omega (arith, c .before .before .before .before .pre .1 .0)
+
+below-requires : (t : ℕ) → under-lts.Need-below-requires (D t) (Under-at t) under.Post
+below-requires t c κs =
+    let d = c .before in
+    let s = d .before .before .before in
+    (omega (arith, s .pre .0, s .pre .1 .0), (omega (arith, s .pre .1 .0, d .if1 .left), s .pre .1 .1))
+
+below-length : (t : ℕ) → under-lts.Need-same-length-2 (D t) (Under-at t) under.Post
+below-length t c = c .before .before .below .ensures .long
+
+below-returns : (t : ℕ) → under-lts.Need-returns-2 (D t) (Under-at t) under.Post
+below-returns t c = c .before .before .below .ensures
+
+-- ---- `below`
 
 add-end : (t : ℕ) → lts.Need-add-end (B t) (At t) below.Post Inv-loop μ-loop
-add-end t c = let s = c .before .before .before in omega (arith, s .pre .1 .known, top-is (s .args .n))
+add-end t c = let s = c .before .before in omega (arith, s .pre .1 .1 .known, top-is (s .args .n))
 
 end-requires : (t : ℕ) → lts.Need-end-requires (B t) (At t) below.Post Inv-loop μ-loop
 end-requires t c κs = search needs
@@ -78,15 +110,19 @@ end-requires-2 : (t : ℕ) → lts.Need-end-requires-2 (B t) (At t) below.Post I
 end-requires-2 t c κs = search needs
 
 loop-holds : (t : ℕ) → lts.Need-loop-holds (B t) (At t) below.Post Inv-loop μ-loop
-loop-holds t c = let s = c .before .before .before .before .before in level-start _ _ _ _ _ _ _ _ (s .fits .m .fits)
+loop-holds t c = let s = c .before .before .before .before in level-start _ _ _ _ _ _ _ _ (s .fits .m .fits)
 
 -- ---- in the loop
 
 -- what was asked
 ask : (t : ℕ) (c : lts.In-loop (B t) (At t) below.Post Inv-loop μ-loop)
-    → let a = c .before .before .before .before .before .before .before .args in
+    → let a = c .before .before .before .before .before .before .args in
     Ask (a .store .now) (a .other .now) (a .n) (a .k) (a .j)
-ask t c = c .before .before .before .before .before .before .before .pre .1
+ask t c = c .before .before .before .before .before .before .pre .1 .1
+
+-- the layer is above 0
+above : (t : ℕ) (c : lts.In-loop (B t) (At t) below.Post Inv-loop μ-loop) → 0 < c .before .before .before .before .before .before .args .k
+above t c = c .before .before .before .before .before .before .pre .1 .0
 
 -- the lowest word that is left
 low : (t : ℕ) (c : lts.In-loop (B t) (At t) below.Post Inv-loop μ-loop) → Lowest (c .before .loop .left) (trailingZeros 64 (c .before .loop .left))
@@ -97,7 +133,7 @@ part-in : (t : ℕ) (c : lts.In-loop (B t) (At t) below.Post Inv-loop μ-loop) �
 part-in t c = let h = c .before in inside (ask t c) (h .loop .inv) (h .before .before .end .ensures) (h .before .end2 .ensures)
 
 part-in-other : (t : ℕ) (c : lts.In-loop (B t) (At t) below.Post Inv-loop μ-loop)
-    → c .before .before .end2 .result ≤ length (c .before .before .before .before .before .before .before .args .other .now)
+    → c .before .before .end2 .result ≤ length (c .before .before .before .before .before .before .args .other .now)
 part-in-other t c =
     let h = c .before in
     inside-both (ask t c) (h .loop .inv) (h .before .before .end .ensures) (h .before .end2 .ensures) _ (ask t c .second)
@@ -150,16 +186,14 @@ get-requires-2 t c κs = search needs
 moving-requires : (t : ℕ) → lts.Need-moving-requires (B t) (At t) below.Post Inv-loop μ-loop
 moving-requires t c κs = search needs
 
-sub-below : (t : ℕ) → lts.Need-sub-below (B t) (At t) below.Post Inv-loop μ-loop
-sub-below t c = omega (arith, c .before .before .before .before .before .before .before .before .before .before .before .if1 .left)
-
-below-requires : (t : ℕ) → lts.Need-below-requires (B t) (At t) below.Post Inv-loop μ-loop
-below-requires t c κs =
+under-requires : (t : ℕ) → lts.Need-under-requires (B t) (At t) below.Post Inv-loop μ-loop
+under-requires t c κs =
     let i = c .before .before .before .before .before .before .before in
     let h = i .before in
-    let s = h .before .before .before in
-    let z = ask-child (ask t i) (h .loop .inv) (s .if1 .left) (low t i .inside) refl in
-    (omega (arith, s .before .before .before .pre .0, s .if1 .left), z)
+    let s = h .before .before .before .before .before in (
+      omega (arith, s .pre .0),
+      (above t i, ask-child (ask t i) (h .loop .inv) (λ e. omega (arith, above t i)) (low t i .inside) refl),
+    )
 
 mul-put : (t : ℕ) → lts.Need-mul-put (B t) (At t) below.Post Inv-loop μ-loop
 mul-put t c = let i = c .before .before .before .before .before .before .before .before .before .before in omega (arith, ordered-here t i, near-here t i)
@@ -171,7 +205,7 @@ part-put-start : (t : ℕ) → lts.Need-part-put-start (B t) (At t) below.Post I
 part-put-start t c = omega (arith, ordered-here t (c .before .before .before .before .before .before .before .before .before .before))
 
 part-put-end : (t : ℕ) → lts.Need-part-put-end (B t) (At t) below.Post Inv-loop μ-loop
-part-put-end t c = omega (arith, part-in t (c .before .before .before .before .before .before .before .before .before .before), c .before .before .below .ensures .long)
+part-put-end t c = omega (arith, part-in t (c .before .before .before .before .before .before .before .before .before .before), c .before .before .under .ensures .long)
 
 put-requires : (t : ℕ) → lts.Need-put-requires (B t) (At t) below.Post Inv-loop μ-loop
 put-requires t c κs = search needs
@@ -198,21 +232,20 @@ loop-again t c =
     let i = x .before .before .before in
     let h = i .before in
     let e = h .before in
-    level-turn (ask t i) (h .loop .inv) (e .before .end .ensures) (e .end2 .ensures) (e .before .before .if1 .left) (low t i .inside) (low t i .on) refl
-    (x .get .ensures) (v .moving .ensures ∙ ap (moved _ _) (y .get2 .ensures)) (r .below .ensures) (p .put .ensures) (w .with-bit .ensures)
+    level-turn (ask t i) (h .loop .inv) (e .before .end .ensures) (e .end2 .ensures) (λ z. omega (arith, above t i)) (low t i .inside) (low t i .on) refl
+    (x .get .ensures) (v .moving .ensures ∙ ap (moved _ _) (y .get2 .ensures)) (r .under .ensures) (p .put .ensures) (w .with-bit .ensures)
     (c .with-bit2 .ensures)
 
-same-length-2 : (t : ℕ) → lts.Need-same-length-2 (B t) (At t) below.Post Inv-loop μ-loop
-same-length-2 t c = c .before .loop .inv .long
+same-length : (t : ℕ) → lts.Need-same-length (B t) (At t) below.Post Inv-loop μ-loop
+same-length t c = c .before .loop .inv .long
 
-returns-2 : (t : ℕ) → lts.Need-returns-2 (B t) (At t) below.Post Inv-loop μ-loop
-returns-2 t c = level-end (c .loop-test .left) (c .before .loop .inv)
+returns : (t : ℕ) → lts.Need-returns (B t) (At t) below.Post Inv-loop μ-loop
+returns t c = level-end (c .loop-test .left) (c .before .loop .inv)
 
-pub +below-spec : {M : Type 1} → statement M
-+below-spec = close μ-below λ t. lts.spec (B t) (At t) below.Post Inv-loop μ-loop
-    (leaves-requires t)
-    (same-length t)
-    (returns t)
+pub +below+under-spec : {M : Type 1} → statement M
++below+under-spec =
+    close μ-below μ-under
+    (λ t. lts.spec (B t) (At t) below.Post Inv-loop μ-loop
     (add-end t)
     (end-requires t)
     (end-requires-2 t)
@@ -231,8 +264,7 @@ pub +below-spec : {M : Type 1} → statement M
     (part-get-end-2 t)
     (get-requires-2 t)
     (moving-requires t)
-    (sub-below t)
-    (below-requires t)
+    (under-requires t)
     (mul-put t)
     (sub-put t)
     (part-put-start t)
@@ -242,5 +274,13 @@ pub +below-spec : {M : Type 1} → statement M
     (with-bit-requires-2 t)
     (loop-less t)
     (loop-again t)
-    (same-length-2 t)
-    (returns-2 t)
+    (same-length t)
+    (returns t))
+    (λ t. under-lts.spec (D t) (Under-at t) under.Post
+    (leaves-requires t)
+    (leaves-length t)
+    (leaves-returns t)
+    (sub-below t)
+    (below-requires t)
+    (below-length t)
+    (below-returns t))
