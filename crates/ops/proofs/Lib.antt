@@ -4,3 +4,4 @@ pub mod Leaf
 pub mod Steps
 pub mod Whole
 pub mod Answers
+pub mod Theorems
