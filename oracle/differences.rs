@@ -77,6 +77,22 @@ fn equality() {
     println!("15 lengths {:?}", lengths(&cleared));
 }
 
+/// A set of ids below n.
+fn of(n: u32, ids: &[u32]) -> BitSet {
+    let mut set = BitSet::with_capacity(n - 1);
+    for &id in ids {
+        set.add(id);
+    }
+    set
+}
+
+fn and_assign(row: u32, n: u32, first: &[u32], second: &[u32]) {
+    let mut set = of(n, first);
+    set &= &of(n, second);
+    let words: Vec<usize> = (0..4).map(|k| set.get_from_layer(k, 0)).collect();
+    println!("{row} {first:?} and {second:?}: {}, first words {words:?}", seen(&set, first[0]));
+}
+
 fn shifts() {
     let id = 4_294_967_285u32;
     println!("30 row {}, mask {}", id.row(32), id.mask(32));
@@ -89,5 +105,8 @@ fn main() {
     capacities();
     small_ids();
     equality();
+    and_assign(18, 262_152, &[1], &[2]);
+    and_assign(19, 262_152, &[5, 262_151], &[5]);
+    and_assign(20, M, &[5, 16_515_072], &[5]);
     shifts();
 }

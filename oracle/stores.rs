@@ -14,6 +14,9 @@ const SLOTS: usize = 16;
 /// A slot above this many words is not dumped.
 const DUMPED: usize = 1_000;
 
+/// A slot above this many words is not merged into another.
+const MERGED: usize = 16_646;
+
 /// A set of the crate, of ids below n. After `clear` the crate's layers have no words, and grow again with what is added: the words
 /// past their ends are 0, and their lengths mean nothing.
 struct Set {
@@ -147,6 +150,7 @@ impl Stores {
             ("rebuild", &[]) => paper(self.rebuild(s)),
             ("layer", &[k]) if k < 3 => Some(self.layer(s, k as usize)),
             ("superset", &[t]) if t < SLOTS as u64 => paper(self.superset(s, t as usize)),
+            ("or" | "and" | "xor", &[t]) if t < SLOTS as u64 => self.merge(word, s, t as usize),
             ("start", &[t]) if t < SLOTS as u64 => self.start(s, t as usize),
             ("next", &[t, budget]) if t < SLOTS as u64 => self.next(s, t as usize, budget),
             _ => None,
@@ -322,6 +326,40 @@ impl Stores {
         let other = Set::of(n, &self.words(t));
         let inside = (&other.bits).iter().all(|id| u64::from(id) < n);
         Ok((inside && one.bits.contains_set(&other.bits)).into())
+    }
+
+    /// The crate's own or and xor. After its and only its `contains` is asked, and the set is built anew from that, since it leaves
+    /// summaries that are not sound. Nothing is asked of unsound stores, nor of a second slot that is too long to be copied.
+    fn merge(&mut self, word: &str, s: usize, t: usize) -> Option<Vec<u64>> {
+        let second = self.words(t);
+        let first = self.words(s);
+        let unsound = |words: &[u64]| model::capacity(words).is_ok_and(|n| !model::is_sound(words, n));
+        if second.len() > MERGED || unsound(&first) || unsound(&second) {
+            return None;
+        }
+        let (n, m) = match (model::capacity(&first), model::capacity(&second)) {
+            (Ok(n), Ok(m)) => (n, m),
+            _ => return Some(vec![2]),
+        };
+        if n != m {
+            return Some(vec![5]);
+        }
+        let mut one = Set::of(n, &first);
+        let other = Set::of(n, &second);
+        match word {
+            "or" => one.bits |= &other.bits,
+            "xor" => one.bits ^= &other.bits,
+            _ => {
+                one.bits &= &other.bits;
+                let held: Vec<u32> = (0..n as u32).filter(|&i| one.bits.contains(i)).collect();
+                one = Set::new(n);
+                for i in held {
+                    one.bits.add(i);
+                }
+            }
+        }
+        self.slots[s].set = Some(one);
+        Some(vec![0, 0])
     }
 
     /// The cursor in the first seven words of a slot.

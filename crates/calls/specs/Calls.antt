@@ -10,6 +10,7 @@ use Rattle.changes.specs.Calls.{changeOf as ofStores}
 use Rattle.slots.specs.Calls.{changeOf as ofSlots}
 use Rattle.lists.specs.Calls.{changeOf as ofLists}
 use Rattle.walks.specs.Calls.{changeOf as ofWalks}
+use Rattle.merges.specs.Calls.{changeOf as ofMerges}
 use Rattle.asks.specs.Calls.{askOf as ofSets}
 use Rattle.looks.specs.Calls.{askOf as ofWords}
 use Rattle.bits.specs.Calls.{askOf as ofBits}
@@ -29,10 +30,14 @@ andThen x f = cond (known (x .said)) x (f (x .lent))
 unfoldable pub changeOf : List ℕ → ℕ → ℕ → Left
 changeOf desk w count = andThen (ofStores desk w count) (λ d. andThen (ofSlots d w count) (λ d′. ofLists d′ w count))
 
+-- those that take two slots and may write to one
+unfoldable pub pairOf : List ℕ → ℕ → ℕ → Left
+pairOf desk w count = andThen (ofWalks desk w count) (λ d. ofMerges d w count)
+
 -- those that only read it
 unfoldable pub askOf : List ℕ → ℕ → ℕ → Said
 askOf desk w count = orElse (ofSets desk w count) (orElse (ofWords desk w count) (ofBits desk w count))
 
 unfoldable pub callOf : List ℕ → ℕ → ℕ → Left
 callOf desk w count =
-    andThen (changeOf desk w count) (λ d. andThen (ofWalks d w count) (λ d′. left (askOf d′ w count) d′))
+    andThen (changeOf desk w count) (λ d. andThen (pairOf d w count) (λ d′. left (askOf d′ w count) d′))

@@ -2,7 +2,7 @@
 // A count of 4 says that it does not.
 ghost use mathlib.Core.Path.{_≡_};
 ghost use Rattle.said.specs.Numbers.{left};
-ghost use Rattle.calls.specs.Calls.{changeOf, askOf, callOf};
+ghost use Rattle.calls.specs.Calls.{changeOf, pairOf, askOf, callOf};
 use said::Said;
 
 // The commands that may write to the desk.
@@ -18,6 +18,17 @@ fn change(desk: &mut [u64], word: u64, count: usize) -> Said
         return b;
     }
     lists::change(desk, word, count)
+}
+
+// Those that take two slots and may write to one.
+fn pair(desk: &mut [u64], word: u64, count: usize) -> Said
+    ensures { λ r. ⌜ left r (now (desk .exit)) ≡ pairOf (now (desk .entry)) word count ⌝ }
+{
+    let a = walks::change(desk, word, count);
+    if a.count < 4 {
+        return a;
+    }
+    merges::change(desk, word, count)
 }
 
 // The commands that only read it.
@@ -43,7 +54,7 @@ pub fn call(desk: &mut [u64], word: u64, count: usize) -> Said
     if a.count < 4 {
         return a;
     }
-    let b = walks::change(desk, word, count);
+    let b = pair(desk, word, count);
     if b.count < 4 {
         return b;
     }

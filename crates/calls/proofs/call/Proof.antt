@@ -1,5 +1,5 @@
 -- `calls::call` meets its contract. Assumes nothing.
-use Rattle.calls.proofs.Links.{call-changed, call-walked, call-asked}
+use Rattle.calls.proofs.Links.{call-changed, call-paired, call-asked}
 use borrow.Author.Needs.{needs}
 use Rattle.calls.proofs.call.Statement.{statement}
 use Rattle.calls.proofs.call.Tie as tie
@@ -13,8 +13,8 @@ same-length c = search needs
 returns : tie.Need-returns
 returns c = call-changed _ _ _ (c .before .before .before .before .change .ensures) (c .if1 .taken)
 
-change-requires-2 : tie.Need-change-requires-2
-change-requires-2 c κs = search needs
+pair-requires : tie.Need-pair-requires
+pair-requires c κs = search needs
 
 same-length-2 : tie.Need-same-length-2
 same-length-2 c = search needs
@@ -23,7 +23,7 @@ returns-2 : tie.Need-returns-2
 returns-2 c =
     let b = c .before .before .before .before in
     let t = b .before .before in
-    call-walked _ _ _ (t .before .before .before .before .change .ensures) (t .if1 .left) (b .change2 .ensures) (c .if2 .taken)
+    call-paired _ _ _ (t .before .before .before .before .change .ensures) (t .if1 .left) (b .pair .ensures) (c .if2 .taken)
 
 ask-requires : tie.Need-ask-requires
 ask-requires c κs = search needs
@@ -36,7 +36,7 @@ returns-3 c =
     let u = c .before .before in
     let b = u .before .before .before .before in
     let t = b .before .before in
-    call-asked _ _ _ (t .before .before .before .before .change .ensures) (t .if1 .left) (b .change2 .ensures) (u .if2 .left) (c .ask .ensures)
+    call-asked _ _ _ (t .before .before .before .before .change .ensures) (t .if1 .left) (b .pair .ensures) (u .if2 .left) (c .ask .ensures)
 
 pub call-spec : {M : Type 1} → statement M
 call-spec =
@@ -45,7 +45,7 @@ call-spec =
     change-requires
     same-length
     returns
-    change-requires-2
+    pair-requires
     same-length-2
     returns-2
     ask-requires

@@ -1,0 +1,116 @@
+// Two groups of up to 64 words, merged by or, and, or xor, with the summary word over the first.
+ghost use mathlib.Core.List.{List};
+ghost use mathlib.Core.Path.{_≡_};
+ghost use Prim.Native.Nat.{_<_};
+ghost use lib.ListN.{length, getD, set};
+ghost use Rattle.store.specs.Build.{flag, flags};
+ghost use Rattle.groups.specs.Op.{opWord, moved};
+ghost use Rattle.groups.specs.Group.{named, all, isDense, wordsOf, overOf};
+
+// The operations, by a formula's codes.
+pub const AND: u64 = 16;
+
+pub const OR: u64 = 17;
+
+pub const XOR: u64 = 18;
+
+// One word with another; what is neither AND nor OR counts as XOR.
+pub fn combine(op: u64, x: u64, y: u64) -> u64
+    ensures { λ r. ⌜ r ≡ opWord op x y ⌝ }
+{
+    if op == AND {
+        return x & y;
+    }
+    if op == OR {
+        return x | y;
+    }
+    x ^ y
+}
+
+// Which of two words decides: where it is 0, the first one stays.
+pub fn moving(op: u64, x: u64, y: u64) -> u64
+    ensures { λ r. ⌜ r ≡ moved op x y ⌝ }
+{
+    if op == AND { x } else { y }
+}
+
+fn flag(x: u64) -> u64
+    ensures { λ r. ⌜ r ≡ flag x ⌝ }
+{
+    if x == 0 { 0 } else { 1 }
+}
+
+// Whether two groups go as a whole: both are full, and 12 words or more are named.
+fn is_dense(n: usize, l: usize, m: u64) -> bool
+    ensures { λ r. ⌜ r ≡ isDense n l m ⌝ }
+{
+    if n == 64 {
+        if l == 64 {
+            return 12 <= u64::count_ones(m);
+        }
+        return false;
+    }
+    false
+}
+
+// A full group, each word with the other's at its place.
+fn merge_64(part: &mut [u64], other: &[u64], op: u64)
+    requires { ⌜ (length (now part) ≡ 64) × (length (now other) ≡ 64) ⌝ }
+    ensures { λ r. ⌜ now (part .exit) ≡ named op all 0 (now (part .entry)) (now (other .entry)) ⌝ }
+{
+    for t in 0..64 {
+        part[t] = combine(op, part[t], other[t]);
+    }
+}
+
+// Its summary.
+fn flags_64(part: &[u64]) -> u64
+    requires { ⌜ length (now part) ≡ 64 ⌝ }
+    ensures { λ r. ⌜ r ≡ flags (now (part .entry)) ⌝ }
+{
+    let mut w = 0u64;
+    for t in 0..64 {
+        w = w | (flag(part[t]) << t);
+    }
+    w
+}
+
+// Both.
+fn dense_64(part: &mut [u64], other: &[u64], op: u64) -> u64
+    requires { ⌜ (length (now part) ≡ 64) × (length (now other) ≡ 64) ⌝ }
+    ensures { λ r. ⌜ (now (part .exit) ≡ named op all 0 (now (part .entry)) (now (other .entry))) × (r ≡ flags (now (part .exit))) ⌝ }
+{
+    merge_64(part, other, op);
+    flags_64(part)
+}
+
+// One word of a group; answers what stands there after, 0 past the group's end.
+fn leaf(part: &mut [u64], other: &[u64], t: usize, op: u64) -> u64
+    ensures { λ r. ⌜ (now (part .exit) ≡ set (now (part .entry)) t (opWord op (getD (now (part .entry)) t 0) (getD (now (other .entry)) t 0))) × (r ≡ getD (now (part .exit)) t 0) ⌝ }
+{
+    if t < part.len() {
+        let z = combine(op, part[t], store::get(other, t));
+        part[t] = z;
+        return z;
+    }
+    0
+}
+
+// The words of a group that m names, each with the other's at its place; w is the word above the group. Answers the word above after.
+// Words that m does not name are merged too where the group goes as a whole.
+pub fn group(part: &mut [u64], other: &[u64], w: u64, m: u64, op: u64) -> u64
+    ensures { λ r. ⌜ (now (part .exit) ≡ wordsOf op (now (part .entry)) (now (other .entry)) m) × (r ≡ overOf op (now (part .entry)) (now (other .entry)) w m) ⌝ }
+{
+    if is_dense(part.len(), other.len(), m) {
+        return dense_64(part, other, op);
+    }
+    let mut over = w;
+    let mut left = m;
+    while left != 0 {
+        let t = u64::trailing_zeros(left) as usize;
+        let z = leaf(part, other, t, op);
+        over = util::with_bit(over, t, z != 0);
+        left = util::with_bit(left, t, false);
+    }
+    over
+}
