@@ -1,8 +1,8 @@
--- `superset::started` meets its contract. Assumes nothing.
+-- `batches::started` meets its contract. Assumes nothing.
 use borrow.Author.Needs.{needs}
-use Rattle.superset.proofs.Batches.{the-cursor}
-use Rattle.superset.proofs.started.Statement.{statement}
-use Rattle.superset.proofs.started.Tie as tie
+use Rattle.batches.proofs.Batches.{the-cursor}
+use Rattle.batches.proofs.started.Statement.{statement}
+use Rattle.batches.proofs.started.Tie as tie
 
 start-requires : tie.Need-start-requires
 start-requires c κs = search needs
