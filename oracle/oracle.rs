@@ -27,6 +27,7 @@ fn main() -> io::Result<()> {
         ["script", "refusal"] => store_scripts::refusal(&mut out)?,
         ["script", "walk"] => walk_scripts::walk(&mut out)?,
         ["script", "cursor"] => walk_scripts::cursor(&mut out)?,
+        ["script", "fill"] => walk_scripts::fill(&mut out)?,
         ["script", "superset"] => walk_scripts::superset(&mut out)?,
         ["answer"] => {
             let mut script = Vec::new();
@@ -34,7 +35,7 @@ fn main() -> io::Result<()> {
             answers::all(&script, &mut out)?;
         }
         _ => {
-            eprintln!("usage: oracle script average | row | bad | small | history | top | unsound | refusal | walk | cursor | superset; oracle answer <SCRIPT");
+            eprintln!("usage: oracle script average | row | bad | small | history | top | unsound | refusal | walk | cursor | fill | superset; oracle answer <SCRIPT");
             std::process::exit(2);
         }
     }

@@ -9,7 +9,8 @@ use Rattle.changes.specs.Calls.{changeOf as ofStores}
 use Rattle.slots.specs.Calls.{changeOf as ofSlots}
 use Rattle.lists.specs.Calls.{changeOf as ofLists}
 use Rattle.walks.specs.Calls.{changeOf as ofWalks}
-use Rattle.calls.specs.Calls.{orElse, andThen, changeOf, askOf, callOf}
+use Rattle.fills.specs.Calls.{changeOf as ofFills}
+use Rattle.calls.specs.Calls.{orElse, andThen, changeOf, walkOf, askOf, callOf}
 
 then-known : {r : Said} {l : List ℕ} (x : Left) (f : List ℕ → Left) → left r l ≡ x → r .count < 4 → left r l ≡ andThen x f
 then-known {r} x f e h = rw (← e, lt-ltb (r .count) 4 h)
@@ -45,6 +46,17 @@ module _ (desk : List ℕ) (w count : ℕ) {r : Said} {l : List ℕ} (e : left r
     change-third k q =
         then-next (ofStores desk w count) second e h (then-next (ofSlots l w count) (λ d. ofLists d w count) f k q)
 
+-- ---- those that walk a store
+
+module _ (desk : List ℕ) (w count : ℕ) {r : Said} {l : List ℕ} (e : left r l ≡ ofWalks desk w count) where
+  pub walk-first : r .count < 4 → left r l ≡ walkOf desk w count
+  unfolding walkOf
+  walk-first h = then-known (ofWalks desk w count) (λ d. ofFills d w count) e h
+
+  pub walk-second : 4 ≤ r .count → {x : Left} → x ≡ ofFills l w count → x ≡ walkOf desk w count
+  unfolding walkOf
+  walk-second h q = then-next (ofWalks desk w count) (λ d. ofFills d w count) e h q
+
 -- ---- all
 
 module _ (desk : List ℕ) (w count : ℕ) {r : Said} {l : List ℕ} (e : left r l ≡ changeOf desk w count) where
@@ -52,18 +64,18 @@ module _ (desk : List ℕ) (w count : ℕ) {r : Said} {l : List ℕ} (e : left r
   asked d = left (askOf d w count) d
 
   abbrev walked : List ℕ → Left
-  walked d = andThen (ofWalks d w count) asked
+  walked d = andThen (walkOf d w count) asked
 
   pub call-changed : r .count < 4 → left r l ≡ callOf desk w count
   unfolding callOf
   call-changed h = then-known (changeOf desk w count) walked e h
 
-  module _ (h : 4 ≤ r .count) {n : Said} {m : List ℕ} (f : left n m ≡ ofWalks l w count) where
+  module _ (h : 4 ≤ r .count) {n : Said} {m : List ℕ} (f : left n m ≡ walkOf l w count) where
     pub call-walked : n .count < 4 → left n m ≡ callOf desk w count
     unfolding callOf
-    call-walked k = then-next (changeOf desk w count) walked e h (then-known (ofWalks l w count) asked f k)
+    call-walked k = then-next (changeOf desk w count) walked e h (then-known (walkOf l w count) asked f k)
 
     pub call-asked : 4 ≤ n .count → {x : Said} → x ≡ askOf m w count → left x m ≡ callOf desk w count
     unfolding callOf
     call-asked k q =
-        then-next (changeOf desk w count) walked e h (then-next (ofWalks l w count) asked f k (ap (λ (x : Said). left x m) q))
+        then-next (changeOf desk w count) walked e h (then-next (walkOf l w count) asked f k (ap (λ (x : Said). left x m) q))

@@ -10,8 +10,10 @@ use Rattle.changes.specs.Calls.{changeOf as ofStores}
 use Rattle.slots.specs.Calls.{changeOf as ofSlots}
 use Rattle.lists.specs.Calls.{changeOf as ofLists}
 use Rattle.walks.specs.Calls.{changeOf as ofWalks}
+use Rattle.fills.specs.Calls.{changeOf as ofFills}
 use Rattle.asks.specs.Calls.{askOf as ofSets}
 use Rattle.looks.specs.Calls.{askOf as ofWords}
+use Rattle.readers.specs.Calls.{askOf as ofReaders}
 use Rattle.bits.specs.Calls.{askOf as ofBits}
 
 -- an answer, or what comes next where it is none
@@ -29,10 +31,14 @@ andThen x f = cond (known (x .said)) x (f (x .lent))
 unfoldable pub changeOf : List ℕ → ℕ → ℕ → Left
 changeOf desk w count = andThen (ofStores desk w count) (λ d. andThen (ofSlots d w count) (λ d′. ofLists d′ w count))
 
+-- those that walk a store
+unfoldable pub walkOf : List ℕ → ℕ → ℕ → Left
+walkOf desk w count = andThen (ofWalks desk w count) (λ d. ofFills d w count)
+
 -- those that only read it
 unfoldable pub askOf : List ℕ → ℕ → ℕ → Said
-askOf desk w count = orElse (ofSets desk w count) (orElse (ofWords desk w count) (ofBits desk w count))
+askOf desk w count = orElse (ofSets desk w count) (orElse (ofWords desk w count) (orElse (ofReaders desk w count) (ofBits desk w count)))
 
 unfoldable pub callOf : List ℕ → ℕ → ℕ → Left
 callOf desk w count =
-    andThen (changeOf desk w count) (λ d. andThen (ofWalks d w count) (λ d′. left (askOf d′ w count) d′))
+    andThen (changeOf desk w count) (λ d. andThen (walkOf d w count) (λ d′. left (askOf d′ w count) d′))

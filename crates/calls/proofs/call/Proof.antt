@@ -13,8 +13,8 @@ same-length c = search needs
 returns : tie.Need-returns
 returns c = call-changed _ _ _ (c .before .before .before .before .change .ensures) (c .if1 .taken)
 
-change-requires-2 : tie.Need-change-requires-2
-change-requires-2 c κs = search needs
+walk-requires : tie.Need-walk-requires
+walk-requires c κs = search needs
 
 same-length-2 : tie.Need-same-length-2
 same-length-2 c = search needs
@@ -23,7 +23,7 @@ returns-2 : tie.Need-returns-2
 returns-2 c =
     let b = c .before .before .before .before in
     let t = b .before .before in
-    call-walked _ _ _ (t .before .before .before .before .change .ensures) (t .if1 .left) (b .change2 .ensures) (c .if2 .taken)
+    call-walked _ _ _ (t .before .before .before .before .change .ensures) (t .if1 .left) (b .walk .ensures) (c .if2 .taken)
 
 ask-requires : tie.Need-ask-requires
 ask-requires c κs = search needs
@@ -36,7 +36,7 @@ returns-3 c =
     let u = c .before .before in
     let b = u .before .before .before .before in
     let t = b .before .before in
-    call-asked _ _ _ (t .before .before .before .before .change .ensures) (t .if1 .left) (b .change2 .ensures) (u .if2 .left) (c .ask .ensures)
+    call-asked _ _ _ (t .before .before .before .before .change .ensures) (t .if1 .left) (b .walk .ensures) (u .if2 .left) (c .ask .ensures)
 
 pub call-spec : {M : Type 1} → statement M
 call-spec =
@@ -45,7 +45,7 @@ call-spec =
     change-requires
     same-length
     returns
-    change-requires-2
+    walk-requires
     same-length-2
     returns-2
     ask-requires

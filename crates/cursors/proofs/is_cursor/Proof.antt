@@ -1,8 +1,8 @@
--- `walks::is_cursor` meets its contract. Assumes nothing.
-use Rattle.walks.proofs.Arms.{cursor-short, cursor-4, cursor-5, cursor-6}
+-- `cursors::is_cursor` meets its contract. Assumes nothing.
+use Rattle.cursors.proofs.Laws.{cursor-short, cursor-4, cursor-5, cursor-6}
 use borrow.Author.Needs.{needs}
-use Rattle.walks.proofs.is_cursor.Statement.{statement}
-use Rattle.walks.proofs.is_cursor.Tie as tie
+use Rattle.cursors.proofs.is_cursor.Statement.{statement}
+use Rattle.cursors.proofs.is_cursor.Tie as tie
 
 returns : tie.Need-returns
 returns c = cursor-short _ (c .if1 .taken)

@@ -1,10 +1,10 @@
--- `walks::told` meets its contract. Assumes nothing.
+-- `cursors::told` meets its contract. Assumes nothing.
 use mathlib.Core.Path.{sym, ap, _∙_}
 use Rattle.iter.specs.declared.Next.{Next}
-use Rattle.walks.specs.Calls.{toldOf}
+use Rattle.cursors.specs.Cursors.{toldOf}
 use borrow.Author.Needs.{needs}
-use Rattle.walks.proofs.told.Statement.{statement}
-use Rattle.walks.proofs.told.Tie as tie
+use Rattle.cursors.proofs.told.Statement.{statement}
+use Rattle.cursors.proofs.told.Tie as tie
 
 enum-known-answer : tie.Need-enum-known-answer
 enum-known-answer c = search needs

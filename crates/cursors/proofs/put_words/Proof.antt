@@ -1,8 +1,8 @@
--- `walks::put` meets its contract. Assumes nothing.
-use Rattle.walks.proofs.Arms.{put-all}
+-- `cursors::put_words` meets its contract. Assumes nothing.
+use Rattle.cursors.proofs.Laws.{put-all}
 use borrow.Author.Needs.{needs}
-use Rattle.walks.proofs.put.Statement.{statement}
-use Rattle.walks.proofs.put.Tie as tie
+use Rattle.cursors.proofs.put_words.Statement.{statement}
+use Rattle.cursors.proofs.put_words.Tie as tie
 
 array-read-put : tie.Need-array-read-put
 array-read-put c = search needs
@@ -70,8 +70,8 @@ returns c =
     put-all _ (p1 .before .before .before .before .before .args .c) (p1 .put .ensures) (p2 .put2 .ensures) (p3 .put3 .ensures) (p4 .put4 .ensures)
     (p5 .before .wide .ensures) (p5 .put5 .ensures) (p6 .before .wide2 .ensures) (p6 .put6 .ensures) (p7 .before .wide3 .ensures) (p7 .put7 .ensures)
 
-pub put-spec : {M : Type 1} → statement M
-put-spec =
+pub put-words-spec : {M : Type 1} → statement M
+put-words-spec =
     tie.close
     (tie.spec
     array-read-put
