@@ -28,6 +28,7 @@ fn main() -> io::Result<()> {
         ["script", "refusal"] => store_scripts::refusal(&mut out)?,
         ["script", "walk"] => walk_scripts::walk(&mut out)?,
         ["script", "cursor"] => walk_scripts::cursor(&mut out)?,
+        ["script", "fill"] => walk_scripts::fill(&mut out)?,
         ["script", "superset"] => walk_scripts::superset(&mut out)?,
         ["script", "merge"] => merge_scripts::merge(&mut out)?,
         ["answer"] => {
@@ -36,7 +37,7 @@ fn main() -> io::Result<()> {
             answers::all(&script, &mut out)?;
         }
         _ => {
-            eprintln!("usage: oracle script average | row | bad | small | history | top | unsound | refusal | walk | cursor | superset | merge; oracle answer <SCRIPT");
+            eprintln!("usage: oracle script average | row | bad | small | history | top | unsound | refusal | walk | cursor | fill | superset | merge; oracle answer <SCRIPT");
             std::process::exit(2);
         }
     }

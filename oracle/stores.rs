@@ -16,6 +16,8 @@ const DUMPED: usize = 1_000;
 
 /// A slot above this many words is not merged into another.
 const MERGED: usize = 16_646;
+/// A fill has at most this many places.
+const PLACES: usize = 64;
 
 /// A set of the crate, of ids below n. After `clear` the crate's layers have no words, and grow again with what is added: the words
 /// past their ends are 0, and their lengths mean nothing.
@@ -112,6 +114,15 @@ fn paper(answer: Result<u64, u64>) -> Option<Vec<u64>> {
     })
 }
 
+/// What a step says: the refusal's number alone, or which answer, the id and the reads.
+fn told(step: Result<Step, u64>) -> Vec<u64> {
+    match step {
+        Ok(Step { answer: Answer::Member(id), reads, .. }) => vec![1, id.into(), reads],
+        Ok(Step { answer, reads, .. }) => vec![answer.number(), 0, reads],
+        Err(refusal) => vec![refusal],
+    }
+}
+
 fn id(n: u64) -> Option<u32> {
     u32::try_from(n).ok()
 }
@@ -153,6 +164,8 @@ impl Stores {
             ("or" | "and" | "xor", &[t]) if t < SLOTS as u64 => self.merge(word, s, t as usize),
             ("start", &[t]) if t < SLOTS as u64 => self.start(s, t as usize),
             ("next", &[t, budget]) if t < SLOTS as u64 => self.next(s, t as usize, budget),
+            ("fill", &[t, budget, d]) if t < SLOTS as u64 && d < SLOTS as u64 => self.fill(s, t as usize, budget, d as usize),
+            ("first", &[budget]) => Some(told(self.first(s, budget))),
             _ => None,
         }
     }
@@ -369,21 +382,19 @@ impl Stores {
         Some(Cursor { masks: words[..4].try_into().ok()?, prefix: prefix.try_into().ok()? })
     }
 
-    /// A step's cursor goes into its slot, and its answer is told: the refusal's number alone, or which answer, the id and the reads.
-    fn step(&mut self, c: usize, step: Result<Step, u64>) -> Option<Vec<u64>> {
-        let step = match step {
-            Ok(step) => step,
-            Err(refusal) => return Some(vec![refusal]),
-        };
-        let prefix = step.cursor.prefix.map(u64::from);
-        for (i, &w) in step.cursor.masks.iter().chain(&prefix).enumerate() {
+    /// A cursor goes into its slot.
+    fn put_cursor(&mut self, c: usize, cursor: &Cursor) {
+        let prefix = cursor.prefix.map(u64::from);
+        for (i, &w) in cursor.masks.iter().chain(&prefix).enumerate() {
             self.poke(c, i as u64, w);
         }
-        Some(match step.answer {
-            Answer::Member(id) => vec![1, id.into(), step.reads],
-            Answer::Paused => vec![2, 0, step.reads],
-            Answer::End => vec![3, 0, step.reads],
-        })
+    }
+
+    fn step(&mut self, c: usize, step: Result<Step, u64>) -> Option<Vec<u64>> {
+        if let Ok(step) = &step {
+            self.put_cursor(c, &step.cursor);
+        }
+        Some(told(step))
     }
 
     fn start(&mut self, c: usize, s: usize) -> Option<Vec<u64>> {
@@ -399,5 +410,27 @@ impl Stores {
             false => Err(7),
         });
         self.step(c, step)
+    }
+    /// A fill with the words of slot d as its places, the first 64 where there are more. The cursor goes back first, then the places.
+    fn fill(&mut self, c: usize, s: usize, budget: u64, d: usize) -> Option<Vec<u64>> {
+        let cursor = self.cursor(c)?;
+        let mut out: Vec<u32> = self.words(d).iter().take(PLACES).map(|&w| w as u32).collect();
+        let batch = self.store(s).and_then(|set| match walks::is_cursor(&cursor) {
+            true => Ok(walks::fill(&set.bits, &cursor, budget, &mut out)),
+            false => Err(7),
+        });
+        if let Ok(batch) = &batch {
+            self.put_cursor(c, &batch.cursor);
+        }
+        for (i, &id) in out.iter().enumerate() {
+            self.poke(d, i as u64, id.into());
+        }
+        Some(batch.map_or_else(|refusal| vec![refusal], |batch| vec![batch.stop, batch.count as u64, batch.reads]))
+    }
+
+    /// The first next of the crate's own walk.
+    fn first(&mut self, s: usize, budget: u64) -> Result<Step, u64> {
+        let set = self.store(s)?;
+        Ok(walks::next(&set.bits, &walks::start(&set.bits).cursor, budget))
     }
 }

@@ -21,6 +21,17 @@ pub enum Answer {
     End,
 }
 
+impl Answer {
+    /// The number by which a script tells it.
+    pub fn number(self) -> u64 {
+        match self {
+            Answer::Member(_) => 1,
+            Answer::Paused => 2,
+            Answer::End => 3,
+        }
+    }
+}
+
 pub struct Step {
     pub cursor: Cursor,
     pub answer: Answer,
@@ -117,4 +128,31 @@ pub fn next(set: &BitSet, cursor: &Cursor, budget: u64) -> Step {
         cursor.masks[layer + 1] |= 1 << (idx % 64);
     }
     Step { cursor, answer, reads: counted.reads.get() }
+}
+
+/// Why a fill stopped: as a script tells it.
+pub const FULL: u64 = 1;
+
+pub struct Batch {
+    pub cursor: Cursor,
+    pub stop: u64,
+    pub count: usize,
+    pub reads: u64,
+}
+
+/// As many members as there are places or the budget allows, by one next of the crate after another.
+pub fn fill(set: &BitSet, from: &Cursor, budget: u64, out: &mut [u32]) -> Batch {
+    let mut batch = Batch { cursor: from.clone(), stop: FULL, count: 0, reads: 0 };
+    while batch.count < out.len() {
+        let step = next(set, &batch.cursor, budget - batch.reads);
+        batch.reads += step.reads;
+        batch.cursor = step.cursor;
+        let Answer::Member(id) = step.answer else {
+            batch.stop = step.answer.number();
+            break;
+        };
+        out[batch.count] = id;
+        batch.count += 1;
+    }
+    batch
 }

@@ -10,9 +10,11 @@ use Rattle.changes.specs.Calls.{changeOf as ofStores}
 use Rattle.slots.specs.Calls.{changeOf as ofSlots}
 use Rattle.lists.specs.Calls.{changeOf as ofLists}
 use Rattle.walks.specs.Calls.{changeOf as ofWalks}
+use Rattle.fills.specs.Calls.{changeOf as ofFills}
 use Rattle.merges.specs.Calls.{changeOf as ofMerges}
 use Rattle.asks.specs.Calls.{askOf as ofSets}
 use Rattle.looks.specs.Calls.{askOf as ofWords}
+use Rattle.readers.specs.Calls.{askOf as ofReaders}
 use Rattle.bits.specs.Calls.{askOf as ofBits}
 
 -- an answer, or what comes next where it is none
@@ -26,18 +28,24 @@ orElse n m = cond (known n) n m
 abbrev pub andThen : Left → (List ℕ → Left) → Left
 andThen x f = cond (known (x .said)) x (f (x .lent))
 
+-- three in turn
+abbrev pub three : (List ℕ → ℕ → ℕ → Left) → (List ℕ → ℕ → ℕ → Left) → (List ℕ → ℕ → ℕ → Left) → List ℕ → ℕ → ℕ → Left
+three f g h desk w count = andThen (f desk w count) (λ d. andThen (g d w count) (λ d′. h d′ w count))
+
 -- the commands that may write to the desk
 unfoldable pub changeOf : List ℕ → ℕ → ℕ → Left
-changeOf desk w count = andThen (ofStores desk w count) (λ d. andThen (ofSlots d w count) (λ d′. ofLists d′ w count))
+changeOf desk w count = three ofStores ofSlots ofLists desk w count
 
--- those that take two slots and may write to one
-unfoldable pub pairOf : List ℕ → ℕ → ℕ → Left
-pairOf desk w count = andThen (ofWalks desk w count) (λ d. ofMerges d w count)
+-- those that go by more than one slot
+unfoldable pub walkOf : List ℕ → ℕ → ℕ → Left
+walkOf desk w count = three ofWalks ofFills ofMerges desk w count
 
 -- those that only read it
 unfoldable pub askOf : List ℕ → ℕ → ℕ → Said
-askOf desk w count = orElse (ofSets desk w count) (orElse (ofWords desk w count) (ofBits desk w count))
+askOf desk w count = orElse (ofSets desk w count) (orElse (ofWords desk w count) (orElse (ofReaders desk w count) (ofBits desk w count)))
+
+abbrev pub asked : List ℕ → ℕ → ℕ → Left
+asked desk w count = left (askOf desk w count) desk
 
 unfoldable pub callOf : List ℕ → ℕ → ℕ → Left
-callOf desk w count =
-    andThen (changeOf desk w count) (λ d. andThen (pairOf d w count) (λ d′. left (askOf d′ w count) d′))
+callOf desk w count = three changeOf walkOf asked desk w count

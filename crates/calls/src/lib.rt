@@ -2,7 +2,7 @@
 // A count of 4 says that it does not.
 ghost use mathlib.Core.Path.{_≡_};
 ghost use Rattle.said.specs.Numbers.{left};
-ghost use Rattle.calls.specs.Calls.{changeOf, pairOf, askOf, callOf};
+ghost use Rattle.calls.specs.Calls.{changeOf, walkOf, askOf, callOf};
 use said::Said;
 
 // The commands that may write to the desk.
@@ -20,13 +20,17 @@ fn change(desk: &mut [u64], word: u64, count: usize) -> Said
     lists::change(desk, word, count)
 }
 
-// Those that take two slots and may write to one.
-fn pair(desk: &mut [u64], word: u64, count: usize) -> Said
-    ensures { λ r. ⌜ left r (now (desk .exit)) ≡ pairOf (now (desk .entry)) word count ⌝ }
+// Those that go by more than one slot.
+fn walk(desk: &mut [u64], word: u64, count: usize) -> Said
+    ensures { λ r. ⌜ left r (now (desk .exit)) ≡ walkOf (now (desk .entry)) word count ⌝ }
 {
     let a = walks::change(desk, word, count);
     if a.count < 4 {
         return a;
+    }
+    let b = fills::change(desk, word, count);
+    if b.count < 4 {
+        return b;
     }
     merges::change(desk, word, count)
 }
@@ -43,6 +47,10 @@ fn ask(desk: &[u64], word: u64, count: usize) -> Said
     if b.count < 4 {
         return b;
     }
+    let c = readers::ask(desk, word, count);
+    if c.count < 4 {
+        return c;
+    }
     bits::ask(desk, word, count)
 }
 
@@ -54,7 +62,7 @@ pub fn call(desk: &mut [u64], word: u64, count: usize) -> Said
     if a.count < 4 {
         return a;
     }
-    let b = pair(desk, word, count);
+    let b = walk(desk, word, count);
     if b.count < 4 {
         return b;
     }

@@ -1,11 +1,10 @@
 // The listing program: lines of standard input add, remove and ask for ids, and each line's answer is printed. Input is read in pieces of
 // 65,536 bytes, and a line that a piece's end cuts goes on in the next one; of a line its first 13 bytes are kept, since no line that
-// means something is longer than 12. What is printed is gathered in a buffer of 65,536 bytes.
-mod answer;
-
+// means something is longer than 12. What is printed is gathered in a buffer of 65,536 bytes. The store is a store and sound at every line.
 ghost use Prim.Native.Nat.{_+_, _≤_, _<_, _^_};
 ghost use lib.ListN.{length};
 ghost use Rattle.io.specs.Counts.{Counts};
+ghost use Rattle.replies.specs.Replies.{Good};
 use libc::STDIN_FILENO;
 
 // What is carried from piece to piece: how much of the output buffer is filled, how long the line is so far, how many lines ended.
@@ -17,8 +16,8 @@ struct State {
 
 // The line has `len` bytes now. Where it is ended it is answered, and the next begins.
 fn step(store: &mut [u64], line: &[u8], buf: &mut [u8], st: State, len: usize, ended: bool) -> State
-    requires { ⌜ st .number + 1 < 2 ^ 64 ⌝ }
-    ensures { λ r. ⌜ r .number ≤ st .number + 1 ⌝ }
+    requires { ⌜ (st .number + 1 < 2 ^ 64) × Good (now store) ⌝ }
+    ensures { λ r. ⌜ (r .number ≤ st .number + 1) × Good (now (store .exit)) ⌝ }
 {
     if !ended {
         return State {
@@ -29,14 +28,14 @@ fn step(store: &mut [u64], line: &[u8], buf: &mut [u8], st: State, len: usize, e
     }
     let number = st.number + 1;
     let c = lines::command_in(line, len);
-    let at = answer::reply(store, buf, st.at, c, number);
+    let at = replies::reply(store, buf, st.at, c, number);
     State { at, len: 0, number }
 }
 
 // A piece of the input.
 fn feed(store: &mut [u64], line: &mut [u8], buf: &mut [u8], st: State, piece: &[u8]) -> State
-    requires { ⌜ st .number + length (now piece) + 1 < 2 ^ 64 ⌝ }
-    ensures { λ r. ⌜ r .number ≤ st .number + length (now (piece .entry)) ⌝ }
+    requires { ⌜ (st .number + length (now piece) + 1 < 2 ^ 64) × Good (now store) ⌝ }
+    ensures { λ r. ⌜ (r .number ≤ st .number + length (now (piece .entry))) × Good (now (store .exit)) ⌝ }
 {
     let mut s = st;
     let mut i = 0usize;

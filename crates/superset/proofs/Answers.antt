@@ -10,7 +10,8 @@ use Rattle.store.specs.Answer.{askedPaper, says}
 use Rattle.store.specs.Layout.{cap, isStore, StoreOf}
 use Rattle.store.specs.declared.Asked.the-variants.{Is, Refused}
 use Rattle.store.proofs.Geometry.{is-store}
-use Rattle.superset.specs.Calls.{allHeld, walked, containsSetOf}
+use Rattle.batches.specs.Steps.{walked}
+use Rattle.superset.specs.Calls.{allHeld, containsSetOf}
 
 pub first-2 : (s t : List ℕ) → isStore s ≡ false → Settled askedPaper (containsSetOf s t) (Refused 2) tt
 unfolding containsSetOf

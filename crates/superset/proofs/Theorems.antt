@@ -19,7 +19,8 @@ use Rattle.bitset.specs.Edit.{holds}
 use Rattle.iter.specs.declared.Cursor.{Cursor}
 use Rattle.demand.specs.Walks.{walkOn}
 use Rattle.demand.proofs.Store.{walk-defined, ids-members}
-use Rattle.superset.specs.Calls.{isMember, allHeld, walked, containsSetOf}
+use Rattle.batches.specs.Steps.{walked}
+use Rattle.superset.specs.Calls.{isMember, allHeld, containsSetOf}
 use Rattle.superset.proofs.Answers.{said-is}
 use Rattle.superset.proofs.Held.{said}
 

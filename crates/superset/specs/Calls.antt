@@ -5,10 +5,9 @@ use Prim.Native.Nat.{ℕ}
 use lib.Dec.{ltb, eqb}
 use Rattle.util.specs.Outcome.{Outcome}
 use Rattle.store.specs.Answer.{says, refuses}
-use Rattle.store.specs.Layout.{top, cap, isStore}
-use Rattle.store.specs.Word.{word}
+use Rattle.store.specs.Layout.{cap, isStore}
 use Rattle.bitset.specs.Edit.{holds}
-use Rattle.demand.specs.Under.{allIds}
+use Rattle.batches.specs.Steps.{walked}
 
 -- "An id is a member if it is below N and its layer-0 bit is set."
 unfoldable pub isMember : List ℕ → ℕ → Bool
@@ -18,10 +17,6 @@ isMember s i = ltb i (cap s) && holds (cap s) s i
 unfoldable pub allHeld : List ℕ → List ℕ → Bool
 allHeld s [] = true
 allHeld s (i ∷ l) = let r = allHeld s l in (isMember s i && r)
-
--- every id that a walk of a store hands out, sound or not
-abbrev pub walked : List ℕ → List ℕ
-walked t = allIds (word (cap t) t) (top (cap t))
 
 -- "`contains_set`: every id that a walk of the other store hands out is a member of this one." Refusals 2, then 5: "capacities differ".
 unfoldable pub containsSetOf : List ℕ → List ℕ → Outcome (Unit {0})

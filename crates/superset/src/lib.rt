@@ -4,14 +4,9 @@ ghost use mathlib.Core.Path.{_≡_};
 ghost use Rattle.util.specs.Outcome.{Settled};
 ghost use Rattle.store.specs.Answer.{askedPaper};
 ghost use Rattle.store.specs.Layout.{isStore};
-ghost use Rattle.superset.specs.Calls.{isMember, allHeld, walked, containsSetOf};
-ghost use Rattle.superset.specs.Steps.{goesOn};
-use iter::Cursor;
-use iter::Stop;
+ghost use Rattle.batches.specs.Steps.{walked};
+ghost use Rattle.superset.specs.Calls.{isMember, allHeld, containsSetOf};
 use store::Asked;
-
-// The largest budget of word reads; a walk that had spent it would go on with the next batch.
-const BUDGET: u64 = 18446744073709551615;
 
 // Whether a store has an id as a member.
 fn is_member(store: &[u64], id: u32) -> bool
@@ -39,18 +34,6 @@ fn all_held(store: &[u64], ids: &[u32]) -> bool
     true
 }
 
-// Whether a walk goes on after a fill.
-fn goes_on(stop: Stop) -> bool
-    ensures { λ r. ⌜ r ≡ goesOn stop ⌝ }
-{
-    match stop {
-        Stop::Full => true,
-        Stop::Paused => true,
-        Stop::End => false,
-        Stop::Refused(_) => false,
-    }
-}
-
 // Whether a store has every id that a walk of the other one hands out, 64 ids at a time.
 fn all_walked(store: &[u64], other: &[u64]) -> bool
     requires { ⌜ (isStore (now store) ≡ true) × (isStore (now other) ≡ true) ⌝ }
@@ -59,13 +42,13 @@ fn all_walked(store: &[u64], other: &[u64]) -> bool
     let mut ids = [0u32; 64];
     let mut c = iter::started(other);
     loop {
-        let b = c.fill(other, BUDGET, &mut ids);
+        let b = c.fill(other, batches::BUDGET, &mut ids);
         let n = b.count;
         if !all_held(store, &ids[..n]) {
             return false;
         }
         let stop = b.stop;
-        if !goes_on(stop) {
+        if !batches::goes_on(stop) {
             return true;
         }
         c = b.cursor;

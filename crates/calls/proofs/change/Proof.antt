@@ -1,10 +1,12 @@
 -- `calls::change` meets its contract. Assumes nothing.
-use Rattle.calls.proofs.Links.{change-first, change-second, change-third}
+use Rattle.changes.specs.Calls.{changeOf as ofStores}
+use Rattle.slots.specs.Calls.{changeOf as ofSlots}
+use Rattle.lists.specs.Calls.{changeOf as ofLists}
+use Rattle.calls.specs.Calls.{changeOf}
+use Rattle.calls.proofs.Links.{first-of, second-of, third-of}
 use borrow.Author.Needs.{needs}
 use Rattle.calls.proofs.change.Statement.{statement}
 use Rattle.calls.proofs.change.Tie as tie
-use Rattle.lists.proofs.change.Reads as change-reads′
-use Rattle.slots.proofs.change.Reads as change-reads′′
 
 change-requires : tie.Need-change-requires
 change-requires c κs = search needs
@@ -13,7 +15,8 @@ same-length : tie.Need-same-length
 same-length c = search needs
 
 returns : tie.Need-returns
-returns c = change-first _ _ _ (c .before .before .before .before .change .ensures) (c .if1 .taken)
+unfolding changeOf
+returns c = first-of ofStores ofSlots ofLists _ _ _ (c .before .before .before .before .change .ensures) (c .if1 .taken)
 
 change-requires-2 : tie.Need-change-requires-2
 change-requires-2 c κs = search needs
@@ -22,10 +25,11 @@ same-length-2 : tie.Need-same-length-2
 same-length-2 c = search needs
 
 returns-2 : tie.Need-returns-2
+unfolding changeOf
 returns-2 c =
     let b = c .before .before .before .before in
     let t = b .before .before in
-    change-second _ _ _ (t .before .before .before .before .change .ensures) (t .if1 .left) (b .change2 .ensures) (c .if2 .taken)
+    second-of ofStores ofSlots ofLists _ _ _ (t .before .before .before .before .change .ensures) (t .if1 .left) (b .change2 .ensures) (c .if2 .taken)
 
 change-requires-3 : tie.Need-change-requires-3
 change-requires-3 c κs = search needs
@@ -34,12 +38,13 @@ same-length-3 : tie.Need-same-length-3
 same-length-3 c = search needs
 
 returns-3 : tie.Need-returns-3
+unfolding changeOf
 returns-3 c =
     let k = c .before .before in
     let u = k .before .before in
     let b = u .before .before .before .before in
     let t = b .before .before in
-    change-third _ _ _ (t .before .before .before .before .change .ensures) (t .if1 .left) (b .change2 .ensures) (u .if2 .left) (k .change3 .ensures)
+    third-of ofStores ofSlots ofLists _ _ _ (t .before .before .before .before .change .ensures) (t .if1 .left) (b .change2 .ensures) (u .if2 .left) (k .change3 .ensures)
 
 pub change-spec : {M : Type 1} → statement M
 change-spec =

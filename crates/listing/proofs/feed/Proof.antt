@@ -5,13 +5,14 @@ use native.Mathlib.Omega.{arith}
 use denote.Ref.{now}
 use lib.ListN.{length}
 use Rattle.text.proofs.Line.{goes-on}
+use Rattle.replies.specs.Replies.{Good}
 use borrow.Author.Needs.{needs}
 use Rattle.listing.proofs.feed.Statement.{statement}
 use Rattle.listing.proofs.feed.Tie as tie
 
 abbrev Inv-loop : tie.InvT-loop
 Inv-loop store₀ line₀ buf₀ piece s₀ i₀ store line buf s i =
-    (i ≤ length piece) × (s .number ≤ s₀ .number + i) × (length store ≡ length store₀) × (length line ≡ length line₀) × (length buf ≡ length buf₀)
+    (i ≤ length piece) × (s .number ≤ s₀ .number + i) × (length store ≡ length store₀) × (length line ≡ length line₀) × (length buf ≡ length buf₀) × Good store
 
 abbrev μ-loop : tie.MeasureT-loop
 μ-loop store₀ line₀ buf₀ piece s₀ i₀ store line buf s i = length piece - i
@@ -36,7 +37,7 @@ loop-less c = omega (arith, forward (c .before .before .before .before .before .
 
 loop-again : tie.Need-loop-again Inv-loop μ-loop
 loop-again c =
-    let f = forward (c .before .before .before .before .before .before .before .before .before .before) in (f .1, omega (arith, f .0), search needs, search needs, search needs)
+    let f = forward (c .before .before .before .before .before .before .before .before .before .before) in (f .1, omega (arith, f .0), search needs, search needs, search needs, search needs)
 
 same-length : tie.Need-same-length Inv-loop μ-loop
 same-length c = search needs

@@ -1,8 +1,10 @@
 -- `listing::main` is safe and ends: each turn takes a byte at least of those that are left, and lines are no more than the bytes taken.
--- Assumes nothing.
+-- At every line the store is a store and sound. Assumes nothing.
 use mathlib.Core.Path.{_≡_}
 use Prim.Native.Nat.{_+_, _<_, _^_}
 use lib.ListN.{length}
+use Rattle.replies.specs.Replies.{Good}
+use Rattle.replies.proofs.Theorems.{good-open}
 use borrow.Author.Needs.{needs}
 use Rattle.listing.proofs.main.Statement.{statement}
 use Rattle.listing.proofs.main.Tie as tie
@@ -14,6 +16,7 @@ Inv-loop store₀ line₀ buf₀ piece₀ s₀ left₀ store line buf piece s le
     × (13 ≡ length line)
     × (65536 ≡ length buf)
     × (65536 ≡ length piece)
+    × Good store
 
 abbrev μ-loop : tie.MeasureT-loop
 μ-loop store₀ line₀ buf₀ piece₀ s₀ left₀ store line buf piece s left = left
@@ -31,7 +34,8 @@ large-buffer-requires-2 : tie.Need-large-buffer-requires-2 Inv-loop μ-loop
 large-buffer-requires-2 c κs = search needs
 
 loop-holds : tie.Need-loop-holds Inv-loop μ-loop
-loop-holds c = search needs
+loop-holds c =
+    (search needs, search needs, search needs, search needs, search needs, good-open _ (search needs) (c .before .before .before .open .ensures))
 
 slice-aggregate-fill : tie.Need-slice-aggregate-fill Inv-loop μ-loop
 slice-aggregate-fill c = search needs

@@ -1,11 +1,11 @@
 -- `superset::all_walked` meets its contract: what is left of the walk decides, and gets less with each batch. Assumes nothing.
-use mathlib.Core.Path.{sym, ap, _∙_}
+use mathlib.Core.Path.{sym, _∙_}
 use native.Mathlib.Omega.{arith}
 use borrow.Author.Needs.{needs}
 use borrow.Author.Tests.{not-true, not-false}
-use lib.ListN.{length}
 use Rattle.store.specs.Word.{Words64}
-use Rattle.superset.proofs.Batches.{left, Going, Turn, going-start, turn, one-lacks, all-there, going-on, less-left}
+use Rattle.batches.proofs.Batches.{left, Turn, turn, batch-length, less-left}
+use Rattle.superset.proofs.Batches.{Going, going-start, one-lacks, all-there, going-on}
 use Rattle.superset.proofs.all_walked.Statement.{statement}
 use Rattle.superset.proofs.all_walked.Tie as tie
 
@@ -28,7 +28,7 @@ loop-holds c =
     going-start (s .args .store .now) (s .args .other .now) (s .pre .1) (words c) (c .started .result) (omega arith) (c .started .ensures)
 
 slice-aggregate-fill : tie.Need-slice-aggregate-fill Inv-loop μ-loop
-slice-aggregate-fill c = sym (c .before .loop .inv .long)
+slice-aggregate-fill c = sym (c .before .loop .inv .at .long)
 
 fill-requires : tie.Need-fill-requires Inv-loop μ-loop
 fill-requires c κs = search needs
@@ -40,13 +40,13 @@ batch-here : (c : tie.After-fill Inv-loop μ-loop)
 batch-here c =
     let l = c .before .before in
     let s = l .before .before .before .before in
-    turn (s .args .store .now) (s .args .other .now) (s .pre .1) (words (l .before)) (l .loop .inv) (c .fill .ensures)
+    turn (s .args .other .now) (s .pre .1) (words (l .before)) (l .loop .inv .at) (c .fill .ensures)
 
 array-share-prefix-ids : tie.Need-array-share-prefix-ids Inv-loop μ-loop
-array-share-prefix-ids c = let u = batch-here (c .before) in omega (arith, u .inside, u .long)
+array-share-prefix-ids c = let u = batch-here (c .before) in omega (arith, u .inside, u .at .long)
 
 slice-aggregate-all-held : tie.Need-slice-aggregate-all-held Inv-loop μ-loop
-slice-aggregate-all-held c = let u = batch-here (c .before .before) in u .counted ∙ sym (ap length (u .here))
+slice-aggregate-all-held c = batch-length (batch-here (c .before .before))
 
 all-held-requires : tie.Need-all-held-requires Inv-loop μ-loop
 all-held-requires c κs = search needs
@@ -73,7 +73,7 @@ loop-less c =
     let e = c .before in
     let o = e .before in
     let f = o .before .before .before .before .before in
-    less-left (f .before .before .loop .inv) (batch-here f) (omega arith) (sym (o .goes-on .ensures) ∙ not-false _ (e .if2 .left))
+    less-left (batch-here f) (omega arith) (sym (o .goes-on .ensures) ∙ not-false _ (e .if2 .left))
 
 loop-again : tie.Need-loop-again Inv-loop μ-loop
 loop-again c =

@@ -1,10 +1,8 @@
 -- `walks::change` meets its contract. Assumes nothing.
 use mathlib.Core.Bool.{true}
-use mathlib.Core.Path.{_≡_, sym, subst, _∙_}
-use Prim.Native.Nat.{ℕ}
-use Rattle.desk.specs.Slots.{partOf}
-use Rattle.walks.specs.Calls.{isCursor, fitsOf}
-use Rattle.walks.proofs.Arms.{fits-cursor, change-none, change-done}
+use mathlib.Core.Path.{_≡_, sym, _∙_}
+use Rattle.walks.specs.Calls.{fitsOf}
+use Rattle.walks.proofs.Arms.{change-none, change-done}
 use borrow.Author.Needs.{needs}
 use Rattle.walks.proofs.change.Statement.{statement}
 use Rattle.walks.proofs.change.Tie as tie
@@ -26,10 +24,7 @@ fit : (c : tie.Then1) → let a = c .before .before .before .before .args in fit
 fit c = sym (c .before .fits2 .ensures) ∙ c .if1 .taken
 
 walk-requires : tie.Need-walk-requires
-walk-requires c κs =
-    let g = c .before .before .before .before .before in
-    let t = g .before .before in
-    subst (λ (x : ℕ). isCursor (partOf (t .before .before .before .before .args .desk .now) x) ≡ true) (sym (g .get .ensures)) (fits-cursor _ _ _ (fit t))
+walk-requires c κs = search needs
 
 stepped-requires : tie.Need-stepped-requires
 stepped-requires c κs = search needs

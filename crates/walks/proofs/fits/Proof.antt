@@ -1,9 +1,9 @@
 -- `walks::fits` meets its contract. Assumes nothing.
-use mathlib.Core.Path.{_≡_, sym, ap, subst, _∙_}
+use mathlib.Core.Path.{sym, ap, subst, _∙_}
 use Prim.Native.Nat.{ℕ, _≤_, _<_}
 use Rattle.desk.specs.Slots.{partOf}
-use Rattle.walks.specs.Calls.{isCursor}
-use Rattle.walks.proofs.Arms.{fits-zero, fits-count, fits-first, fits-second, fits-is}
+use Rattle.cursors.specs.Cursors.{isCursor}
+use Rattle.walks.proofs.Arms.{fits-zero, fits-count, fits-slot, fits-is}
 use borrow.Author.Needs.{needs}
 use Rattle.walks.proofs.fits.Statement.{statement}
 use Rattle.walks.proofs.fits.Tie as tie
@@ -25,10 +25,13 @@ returns-3 c =
     let g = c .before in
     let n = g .before in
     let t = n .before in
-    fits-first _ _ _ (t .before .if1 .left) (n .if2 .left ∙ t .takes .ensures) (subst (λ (x : ℕ). 15 < x) (g .get .ensures) (c .if3 .taken))
+    fits-slot _ _ _ (t .before .if1 .left) (n .if2 .left ∙ t .takes .ensures) (subst (λ (x : ℕ). 15 < x) (g .get .ensures) (c .if3 .taken))
 
 get-requires-2 : tie.Need-get-requires-2
 get-requires-2 c κs = search needs
+
+has-requires : tie.Need-has-requires
+has-requires c κs = search needs
 
 returns-4 : tie.Need-returns-4
 returns-4 c =
@@ -37,27 +40,8 @@ returns-4 c =
     let g = o .before in
     let n = g .before in
     let t = n .before in
-    fits-second _ _ _ (t .before .if1 .left) (n .if2 .left ∙ t .takes .ensures) (subst (λ (x : ℕ). x ≤ 15) (g .get .ensures) (o .if3 .left))
-    (subst (λ (x : ℕ). 15 < x) (h .get2 .ensures) (c .if4 .taken))
-
-part-requires : tie.Need-part-requires
-part-requires c κs = search needs
-
-is-cursor-requires : tie.Need-is-cursor-requires
-is-cursor-requires c κs = search needs
-
-returns-5 : tie.Need-returns-5
-returns-5 c =
-    let k = c .before in
-    let w = k .before in
-    let h = w .before in
-    let o = h .before in
-    let g = o .before in
-    let n = g .before in
-    let t = n .before in
-    c .is-cursor .ensures ∙ ap isCursor (k .part .ensures ∙ ap (partOf _) (g .get .ensures))
+    c .has .ensures ∙ ap isCursor (ap (partOf _) (h .get2 .ensures))
     ∙ fits-is _ _ _ (t .before .if1 .left) (n .if2 .left ∙ t .takes .ensures) (subst (λ (x : ℕ). x ≤ 15) (g .get .ensures) (o .if3 .left))
-    (subst (λ (x : ℕ). x ≤ 15) (h .get2 .ensures) (w .if4 .left))
 
 pub fits-spec : {M : Type 1} → statement M
 fits-spec =
@@ -69,7 +53,5 @@ fits-spec =
     get-requires
     returns-3
     get-requires-2
-    returns-4
-    part-requires
-    is-cursor-requires
-    returns-5)
+    has-requires
+    returns-4)
