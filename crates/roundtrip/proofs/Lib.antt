@@ -1,0 +1,4 @@
+pub mod Written
+pub mod Accepted
+pub mod Stores
+pub mod Theorems
