@@ -1,12 +1,12 @@
 -- Layer 0 as the part of the store that the writer lends on, and the words that the map tells of.
 use mathlib.Core.List.{List}
-use mathlib.Core.Path.{_≡_, refl, sym, ap, _∙_}
-use Prim.Native.Nat.{ℕ, _+_, _-_, _*_, _%_, _^_, _≤_, _<_}
+use mathlib.Core.Path.{_≡_, ap, _∙_}
+use Prim.Native.Nat.{ℕ, _+_, _-_, _%_, _^_, _≤_}
 use native.Mathlib.Omega.{arith}
 use lib.ListN.{length, getD, take, drop, length-drop}
 use lib.Seq.{take-all, getD-drop}
 use Rattle.store.specs.Build.{layer0, room0}
-use Rattle.store.specs.Layout.{words, room, layerLen, layerStart, endOf, StoreOf}
+use Rattle.store.specs.Layout.{words, room, layerStart, endOf, StoreOf}
 use Rattle.store.specs.Word.{Words64}
 use Rattle.store.proofs.Ends.{part}
 use Rattle.chunkmap.specs.Map.{keptFrom, wordsIn, used}

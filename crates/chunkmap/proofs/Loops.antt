@@ -2,7 +2,7 @@
 use mathlib.Core.Bool.{not}
 use mathlib.Core.List.{List, [], _∷_}
 use mathlib.Core.Path.{_≡_, refl, sym, ap, ap₂, _∙_}
-use Prim.Native.Nat.{ℕ, zero, suc, _+_, _-_, _*_, _/_, _%_, _^_, _≤_, _<_}
+use Prim.Native.Nat.{ℕ, suc, _+_, _-_, _*_, _/_, _%_, _^_, _≤_, _<_}
 use native.Mathlib.Nat.{add-zero, sub-zero}
 use native.Mathlib.Omega.{arith}
 use mir.Val.{boolByte}
@@ -10,15 +10,13 @@ use lib.Count.{ones, ones-le}
 use lib.Dec.{eqb}
 use lib.ListN.{length, getD, set, drop, length-set}
 use lib.Seq.{sets, length-sets}
-use Rattle.util.specs.Word.{count}
 use Rattle.util.proofs.Average.{count-ones}
 use Rattle.store.specs.Build.{flag}
-use Rattle.store.specs.Word.{Words64}
 use Rattle.store.proofs.Build.{flag-lt}
 use Rattle.summary.proofs.Layers.{flag-byte}
 use Rattle.le.specs.Bytes.{le}
 use Rattle.chunkmap.specs.Map.{countAll, used, entryOf, entries}
-use Rattle.chunkmap.specs.Steps.{ended, Layer0, Fits}
+use Rattle.chunkmap.specs.Steps.{ended, Fits}
 use Rattle.chunkmap.proofs.Bytes.{entries-turn}
 use Rattle.chunkmap.proofs.Words.{ended-turn, ended-last}
 

@@ -1,19 +1,17 @@
 -- The words that a map tells of: bits at or past N taken as absent, which changes at most the last word.
 use mathlib.Core.List.{List, [], _∷_, _++_}
 use mathlib.Core.Path.{_≡_, refl, sym, ap, ap₂, _∙_, subst}
-use Prim.Native.Nat.{ℕ, zero, suc, _+_, _-_, _*_, _/_, _%_, _^_, _≤_, _<_, min}
+use Prim.Native.Nat.{ℕ, zero, suc, _+_, _-_, _*_, _%_, _^_, _≤_, _<_}
 use native.Mathlib.Nat.{mod-lt, mod-eq-of-lt}
 use native.Mathlib.Omega.{arith}
-use lib.ListN.{length, getD, take, drop, length-append}
-use lib.Pow.{pow-pos, pow-mono}
-use lib.Seq.{take-suc, drop-at, drop-append-le, drop-cons, getD-take, length-take-le}
-use Rattle.util.specs.Word.{count}
+use lib.ListN.{length, getD, take, drop}
+use lib.Pow.{pow-pos}
+use lib.Seq.{drop-at, drop-append-le, drop-cons, getD-take, length-take-le}
 use Rattle.util.proofs.Bits.{shl-one}
-use Rattle.store.specs.Build.{flag, room0, Kept}
-use Rattle.store.specs.Layout.{words}
+use Rattle.store.specs.Build.{room0, Kept}
 use Rattle.store.specs.Word.{Words64}
-use Rattle.chunkmap.specs.Map.{keptFrom, countAll, used}
-use Rattle.chunkmap.specs.Steps.{ended, Layer0, LayerOf}
+use Rattle.chunkmap.specs.Map.{keptFrom}
+use Rattle.chunkmap.specs.Steps.{ended, LayerOf}
 
 -- ---- the words from number q on
 

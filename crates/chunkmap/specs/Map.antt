@@ -3,7 +3,7 @@
 -- zero. Length 16+12W".
 use mathlib.Core.Bool.{cond}
 use mathlib.Core.List.{List, [], _∷_, _++_}
-use Prim.Native.Nat.{ℕ, suc, _+_, _-_, _*_, _^_, _%_}
+use Prim.Native.Nat.{ℕ, suc, _+_, _*_, _^_, _%_}
 use lib.Dec.{eqb}
 use Rattle.util.specs.Word.{count}
 use Rattle.store.specs.Build.{flag, layer0, room0}

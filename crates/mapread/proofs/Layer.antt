@@ -1,7 +1,7 @@
 -- The store with a new layer 0: cleared, its layer 0 put back as a part, and the summaries rebuilt.
-use mathlib.Core.List.{List, _∷_, _++_, append-nil}
+use mathlib.Core.List.{List, _++_, append-nil}
 use mathlib.Core.Path.{_≡_, refl, sym, ap, ap₂, _∙_}
-use Prim.Native.Nat.{ℕ, zero, suc, _+_, _-_, _*_, _≤_, _<_}
+use Prim.Native.Nat.{ℕ, zero, suc, _+_, _-_, _≤_}
 use native.Mathlib.Omega.{arith}
 use borrow.Rule.Slice.PartMut.{midOf, putMid, post-is}
 use lib.ListN.{length, getD, set, take, drop, replicate, length-set, length-drop, length-append, length-replicate, List·getD-append}
@@ -11,7 +11,6 @@ use Rattle.store.specs.Answer.{didPaper, does}
 use Rattle.store.specs.Build.{build, layer0, empty}
 use Rattle.store.specs.Layout.{layerLen, layerStart, storeLen, endOf, StoreOf}
 use Rattle.store.specs.declared.Did.{Did}
-use Rattle.store.proofs.Build.{store-empty}
 use Rattle.store.proofs.Ends.{part}
 use Rattle.store.proofs.Geometry.{is-store, after-header}
 use Rattle.whole.specs.Calls.{clearOf}

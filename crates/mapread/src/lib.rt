@@ -36,17 +36,17 @@ fn head_ok(map: &[u8]) -> bool
     }
     let n = get(map, 0, 4) as usize;
     let offset = get(map, 12, 4) as usize;
-    let used = get(map, 8, 4) as usize;
+    let listed = get(map, 8, 4) as usize;
     if !store::is_capacity(n) {
         return false;
     }
     if offset != 16 {
         return false;
     }
-    if used > (n + 63) / 64 {
+    if listed > (n + 63) / 64 {
         return false;
     }
-    16 + 12 * used <= map.len()
+    16 + 12 * listed <= map.len()
 }
 
 // Whether word x may stand at number q in a map of capacity n, the numbers below lo being used up.

@@ -17,8 +17,8 @@ use Rattle.store.specs.Layout.{layerLen}
 use Rattle.store.proofs.Build.{flag-one}
 use Rattle.le.specs.Bytes.{le, Bytes}
 use Rattle.le.proofs.Numbers.{bytes-at}
-use Rattle.chunkmap.specs.Map.{countAll, used, entryOf, entries, headOf, mapOf, mapLen}
-use Rattle.mapread.specs.Judge.{capIn, countIn, usedIn, offsetIn, table, numberIn, wordIn, behind, entryOk, good, total, fill, wordsOf}
+use Rattle.chunkmap.specs.Map.{countAll, used, entryOf, entries, headOf, mapOf}
+use Rattle.mapread.specs.Judge.{countIn, usedIn, offsetIn, table, numberIn, wordIn, behind, entryOk, good, total, fill, wordsOf}
 use Rattle.mapread.proofs.Right.{EntryIs, entry-is, Accepted}
 use Rattle.roundtrip.proofs.Written.{count-zero}
 
@@ -81,7 +81,6 @@ upto p t = (p ++ replicate (gap p t) 0) ++ (wordIn t ∷ [])
 
 module _ (N n : ℕ) (p t : List ℕ) (r : ℕ) (b : length p + r ≡ layerLen N 0) (l : 12 * suc n ≤ length t) (h : Bytes t)
     (e : EntryIs N (length p) (numberIn t) (wordIn t)) where
-
   length-zeros : length (p ++ replicate (gap p t) 0) ≡ numberIn t
   length-zeros = length-append p (replicate (gap p t) 0) ∙ omega (arith, length-replicate {A = ℕ} (gap p t) 0, e .rising)
 

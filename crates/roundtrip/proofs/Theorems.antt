@@ -1,29 +1,26 @@
 -- THE CHUNK MAP: what is written is read back, what is read is written back, and which bytes are accepted.
 use mathlib.Core.List.{List, [], _∷_, _++_, append-nil}
 use mathlib.Core.Logic.{_↔_}
-use mathlib.Core.Path.{_≡_, refl, sym, ap, ap₂, _∙_, subst}
+use mathlib.Core.Path.{_≡_, sym, ap, _∙_, subst}
 use Prim.Native.Nat.{ℕ, _+_, _*_, _^_, _≤_, _<_}
 use native.Mathlib.Decide.{ℕ-discrete}
 use native.Mathlib.Omega.{arith}
-use mathlib.Core.Bool.{cond}
-use borrow.Author.Tests.{le-leb, eq-eqb, ne-eqb}
-use lib.ListN.{length, getD, take, drop, length-drop, take-append-drop}
-use lib.Seq.{sets, sets-eq, take-at, length-take-le}
+use borrow.Author.Tests.{le-leb, ne-eqb}
+use lib.ListN.{length, getD, take, drop, take-append-drop}
+use lib.Seq.{sets, sets-eq, take-at}
 use Rattle.util.specs.Outcome.{Outcome}
 use Rattle.store.specs.Answer.{gives, does, refuses}
-use Rattle.store.specs.Build.{build, layer0, room0, Kept}
-use Rattle.store.specs.Layout.{maxCap, layerLen, cap, StoreOf}
+use Rattle.store.specs.Build.{build, layer0, room0}
+use Rattle.store.specs.Layout.{maxCap, StoreOf}
 use Rattle.store.specs.Word.{Member, members, Sound, Words64}
-use Rattle.store.proofs.Build.{cap-build, layer0-build}
 use Rattle.store.proofs.Geometry.{is-store}
-use Rattle.store.proofs.Members.{same-store}
 use Rattle.le.specs.Bytes.{Bytes}
 use Rattle.chunkmap.specs.Calls.{writeOf}
-use Rattle.chunkmap.specs.Map.{wordsIn, used, mapOf, mapLen}
+use Rattle.chunkmap.specs.Map.{wordsIn, mapOf, mapLen}
 use Rattle.chunkmap.proofs.Bytes.{length-map}
 use Rattle.chunkmap.proofs.Words.{kept-low}
 use Rattle.mapread.specs.Calls.{readOf}
-use Rattle.mapread.specs.Judge.{judgeOf, usedIn, capIn, wordsOf}
+use Rattle.mapread.specs.Judge.{judgeOf, usedIn, wordsOf}
 use Rattle.mapread.proofs.Layer.{length-words}
 use Rattle.mapread.proofs.Right.{Accepted, accepted, accepted-0, cap-most}
 use Rattle.roundtrip.specs.Claims.{Fine, MapOfSome}

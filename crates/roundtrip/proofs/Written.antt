@@ -3,7 +3,7 @@ use mathlib.Core.Bool.{Bool, true, _&&_}
 use mathlib.Core.List.{List, [], _∷_, _++_, append-assoc}
 use mathlib.Core.Logic.{_≢_}
 use mathlib.Core.Path.{_≡_, refl, sym, ap, ap₂, _∙_, subst}
-use Prim.Native.Nat.{ℕ, zero, suc, _+_, _-_, _*_, _/_, _%_, _^_, _≤_, _<_, min}
+use Prim.Native.Nat.{ℕ, zero, suc, _+_, _*_, _/_, _^_, _≤_, _<_}
 use native.Mathlib.Decide.{ℕ-discrete}
 use native.Mathlib.Omega.{arith}
 use borrow.Author.Tests.{le-leb, eq-eqb, ne-eqb}
@@ -17,7 +17,7 @@ use Rattle.store.specs.Layout.{maxCap, isCap, room, layerLen}
 use Rattle.store.proofs.Build.{flag-zero, flag-one}
 use Rattle.le.specs.Bytes.{le, numAt}
 use Rattle.le.proofs.Numbers.{length-le, num-at}
-use Rattle.chunkmap.specs.Map.{countAll, used, entries, headOf, mapOf, mapLen}
+use Rattle.chunkmap.specs.Map.{countAll, used, entries, headOf, mapOf}
 use Rattle.chunkmap.proofs.Bytes.{length-head, length-map, used-le}
 use Rattle.mapread.specs.Judge.{capIn, countIn, usedIn, offsetIn, table, numberIn, wordIn, behind, entryOk, good, total, fill, wordsOf}
 use Rattle.mapread.proofs.Right.{is-entry, Accepted}

@@ -3,7 +3,7 @@ use mathlib.Core.List.{List, _++_}
 use mathlib.Core.Path.{_≡_}
 use Prim.Native.Nat.{ℕ}
 use Rattle.store.specs.Layout.{StoreOf}
-use Rattle.store.specs.Word.{members, Sound, Words64}
+use Rattle.store.specs.Word.{Sound, Words64}
 use Rattle.chunkmap.specs.Map.{wordsIn, mapOf}
 
 -- x is a sound store of capacity N

@@ -5,12 +5,12 @@ use Prim.Native.Nat.{ℕ, _+_, _-_, _*_, _≤_}
 use native.Mathlib.Omega.{arith}
 use borrow.Author.Needs.{needs}
 use lib.ListN.{length, take, drop}
-use lib.Seq.{sets, length-sets}
+use lib.Seq.{sets}
 use Rattle.store.specs.Layout.{StoreOf}
 use Rattle.store.specs.Word.{Words64}
 use Rattle.store.proofs.Ends.{some-store, no-store}
-use Rattle.chunkmap.specs.Map.{wordsIn, countAll, used, entries, headOf, mapLen}
-use Rattle.chunkmap.specs.Steps.{ended, Fits}
+use Rattle.chunkmap.specs.Map.{wordsIn, countAll, used, entries, headOf}
+use Rattle.chunkmap.specs.Steps.{ended}
 use Rattle.chunkmap.proofs.Answers.{write-2, write-8, write-done}
 use Rattle.chunkmap.proofs.Bytes.{map-sets}
 use Rattle.chunkmap.proofs.Layer.{start-in, lent-layer, lent-some, words-are, few-used}

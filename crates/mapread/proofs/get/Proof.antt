@@ -1,7 +1,6 @@
 -- `mapread::get` meets its contract. Assumes nothing.
 use Prim.Native.Nat.{_+_, _-_, _<_, _^_}
 use native.Mathlib.Omega.{arith}
-use borrow.Author.Needs.{needs}
 use lib.ListN.{getD}
 use Rattle.mapread.proofs.Loops.{Got, got-start, got-room, got-turn, got-end}
 use Rattle.mapread.proofs.get.Statement.{statement}

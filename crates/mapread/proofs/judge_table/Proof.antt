@@ -1,12 +1,12 @@
 -- `mapread::judge_table` meets its contract. Assumes nothing.
 use mathlib.Core.Bool.{true}
 use mathlib.Core.Path.{_≡_, sym, _∙_}
-use Prim.Native.Nat.{_+_, _-_, _*_, _≤_, _<_, _^_}
+use Prim.Native.Nat.{_-_, _≤_, _<_, _^_}
 use native.Mathlib.Omega.{arith}
 use borrow.Author.Needs.{needs}
 use borrow.Author.Tests.{not-true, not-false}
 use lib.Count.{ones, ones-le}
-use Rattle.store.specs.Layout.{room, layerLen}
+use Rattle.store.specs.Layout.{room}
 use Rattle.mapread.specs.Judge.{entryOk}
 use Rattle.mapread.proofs.Loops.{Entry, Judged, judged-start, judged-turn, judged-bad, judged-good, judged-sum}
 use Rattle.mapread.proofs.Right.{entry-is, table-0, table-11}

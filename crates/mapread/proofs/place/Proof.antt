@@ -1,9 +1,9 @@
 -- `mapread::place` meets its contract. Assumes nothing.
-use Prim.Native.Nat.{_+_, _-_, _*_, _≤_, _<_, _^_}
+use Prim.Native.Nat.{_+_, _-_, _*_, _≤_}
 use native.Mathlib.Omega.{arith}
 use borrow.Author.Needs.{needs}
 use lib.ListN.{length}
-use Rattle.mapread.proofs.Loops.{Entry, Placed, placed-start, placed-turn, placed-end}
+use Rattle.mapread.proofs.Loops.{Placed, placed-start, placed-turn, placed-end}
 use Rattle.mapread.proofs.place.Statement.{statement}
 use Rattle.mapread.proofs.place.Tie as tie
 
