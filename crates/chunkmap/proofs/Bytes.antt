@@ -3,7 +3,7 @@ use mathlib.Core.Bool.{Bool, true, false, cond}
 use mathlib.Core.List.{List, [], _∷_, _++_, append-assoc}
 use mathlib.Core.Logic.{_≢_}
 use mathlib.Core.Path.{_≡_, refl, sym, ap, ap₂, _∙_}
-use Prim.Native.Nat.{ℕ, suc, _+_, _*_, _≤_}
+use Prim.Native.Nat.{ℕ, suc, _+_, _-_, _*_, _/_, _≤_}
 use native.Mathlib.Omega.{arith}
 use borrow.Author.Tests.{eq-eqb, ne-eqb}
 use lib.Dec.{eqb}
@@ -89,7 +89,7 @@ used-le (w ∷ ws) = omega (arith, used-le ws, flag-lt w)
 
 -- ---- the entries first, and then the header
 
-pub map-sets : (b : List ℕ) (N : ℕ) (ws : List ℕ) → mapLen ws ≤ length b
+map-sets : (b : List ℕ) (N : ℕ) (ws : List ℕ) → mapLen ws ≤ length b
     → sets (sets b 16 (entries 0 ws)) 0 (headOf N (countAll ws) (used ws)) ≡ sets b 0 (mapOf N ws)
 unfolding mapOf
 map-sets b N ws h =
@@ -120,3 +120,12 @@ map-sets b N ws h =
 
     tail : drop 16 (take 16 b ++ E ++ drop (16 + length E) b) ≡ E ++ drop (16 + length E) b
     tail = ap (drop 16) (append-assoc (take 16 b) E (drop (16 + length E) b)) ∙ drop-at (take 16 b) (E ++ drop (16 + length E) b) 16 (length-take-le 16 b (omega arith))
+
+-- the same as the code does it: the word count is found from where the entries end
+pub map-put : (b : List ℕ) (N : ℕ) (ws : List ℕ) → mapLen ws ≤ length b → {b₁ b₂ : List ℕ} {m e : ℕ} → b₁ ≡ sets b 16 (entries 0 ws) → m ≡ countAll ws
+    → e ≡ mapLen ws → b₂ ≡ sets b₁ 0 (headOf N m ((e - 16) / 12)) → b₂ ≡ sets b 0 (mapOf N ws)
+map-put b N ws h {b₁} {b₂} {m} {e} is-b is-m is-e is =
+    let u : (e - 16) / 12 ≡ used ws = omega (arith, is-e) in
+    is ∙ ap₂ (λ (x : List ℕ) (k : ℕ). sets x 0 (headOf N k ((e - 16) / 12))) is-b is-m
+    ∙ ap (λ (k : ℕ). sets (sets b 16 (entries 0 ws)) 0 (headOf N (countAll ws) k)) u
+    ∙ map-sets b N ws h

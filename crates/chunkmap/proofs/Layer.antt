@@ -1,18 +1,38 @@
 -- Layer 0 as the part of the store that the writer lends on, and the words that the map tells of.
-use mathlib.Core.List.{List}
-use mathlib.Core.Path.{_≡_, ap, _∙_}
-use Prim.Native.Nat.{ℕ, _+_, _-_, _%_, _^_, _≤_}
+use mathlib.Core.Bool.{true}
+use mathlib.Core.List.{List, [], _∷_}
+use mathlib.Core.Path.{_≡_, sym, ap, _∙_}
+use Prim.Native.Nat.{ℕ, _+_, _-_, _*_, _%_, _^_, _≤_}
 use native.Mathlib.Omega.{arith}
-use lib.ListN.{length, getD, take, drop, length-drop}
-use lib.Seq.{take-all, getD-drop}
+use borrow.Author.Tests.{le-leb}
+use lib.Dec.{leb}
+use lib.ListN.{length, getD, take, drop, length-drop, length-append}
+use lib.Seq.{take-all, getD-drop, length-take-le}
 use Rattle.store.specs.Build.{layer0, room0}
 use Rattle.store.specs.Layout.{words, room, layerStart, endOf, StoreOf}
 use Rattle.store.specs.Word.{Words64}
 use Rattle.store.proofs.Ends.{part}
-use Rattle.chunkmap.specs.Map.{keptFrom, wordsIn, used}
+use Rattle.chunkmap.specs.Map.{keptFrom, wordsIn, used, mapLen}
 use Rattle.chunkmap.specs.Steps.{ended, Layer0, LayerOf}
 use Rattle.chunkmap.proofs.Bytes.{used-le}
-use Rattle.chunkmap.proofs.Words.{length-kept, kept-ended}
+use Rattle.chunkmap.proofs.Words.{kept-ended}
+
+-- ---- how many words are used at most
+
+few-in : (ws : List ℕ) (last : ℕ) → 1 ≤ length ws → used (ended ws last) ≤ length ws
+unfolding ended
+few-in ws last h =
+    omega (arith, used-le (ended ws last), length-append (take (length ws - 1) ws) (last ∷ []), length-take-le (length ws - 1) ws (omega arith))
+
+module _ {ws : List ℕ} (last : ℕ) (z : Layer0 ws) where
+  pub few-used : used (ended ws last) ≤ 262144
+  few-used = omega (arith, few-in ws last (z .some), z .most)
+
+  -- there is room for the map where there is room for all words
+  pub room-for-all : (bytes : ℕ) → 16 + 12 * length ws ≤ bytes → true ≡ leb (mapLen (ended ws last)) bytes
+  room-for-all bytes h = sym (le-leb (mapLen (ended ws last)) bytes (omega (arith, few-in ws last (z .some))))
+
+-- ---- layer 0 of a store
 
 module _ {N : ℕ} {s : List ℕ} (z : StoreOf N s) {a : ℕ} (start : a ≡ endOf N 1) where
   start-is : a ≡ layerStart N 0
@@ -45,14 +65,3 @@ module _ {N : ℕ} {s : List ℕ} (z : StoreOf N s) {a : ℕ} (start : a ≡ end
         ap (ended (take (length s - a) (drop a s))) last-is
         ∙ kept-ended N (take (length s - a) (drop a s)) lent-layer lent-small
         ∙ ap (keptFrom N 0) lent-is
-
-    pub few-used : used (ended (take (length s - a) (drop a s)) last) ≤ 262144
-    few-used =
-        omega (
-          arith,
-          used-le (ended (take (length s - a) (drop a s)) last),
-          ap length words-are,
-          length-kept N 0 (layer0 N s),
-          long-layer,
-          z .most,
-        )

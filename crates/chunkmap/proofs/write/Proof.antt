@@ -1,19 +1,21 @@
 -- `chunkmap::write` meets its contract. Assumes nothing.
+use mathlib.Core.Bool.{true}
 use mathlib.Core.List.{List}
-use mathlib.Core.Path.{_≡_, ap, ap₂, _∙_}
-use Prim.Native.Nat.{ℕ, _+_, _-_, _*_, _≤_}
+use mathlib.Core.Path.{_≡_, sym, ap, _∙_}
+use Prim.Native.Nat.{ℕ, _-_, _≤_}
 use native.Mathlib.Omega.{arith}
 use borrow.Author.Needs.{needs}
+use borrow.Author.Tests.{leb-true, not-true, not-false}
+use lib.Dec.{leb}
 use lib.ListN.{length, take, drop}
 use lib.Seq.{sets}
 use Rattle.store.specs.Layout.{StoreOf}
 use Rattle.store.specs.Word.{Words64}
 use Rattle.store.proofs.Ends.{some-store, no-store}
-use Rattle.chunkmap.specs.Map.{wordsIn, countAll, used, entries, headOf}
+use Rattle.chunkmap.specs.Map.{wordsIn, mapOf, mapLen}
 use Rattle.chunkmap.specs.Steps.{ended}
 use Rattle.chunkmap.proofs.Answers.{write-2, write-8, write-done}
-use Rattle.chunkmap.proofs.Bytes.{map-sets}
-use Rattle.chunkmap.proofs.Layer.{start-in, lent-layer, lent-some, words-are, few-used}
+use Rattle.chunkmap.proofs.Layer.{start-in, lent-layer, lent-some, words-are}
 use Rattle.chunkmap.proofs.write.Statement.{statement}
 use Rattle.chunkmap.proofs.write.Tie as tie
 
@@ -54,72 +56,55 @@ part-layer-end c = search needs
 last-word-requires : tie.Need-last-word-requires
 last-word-requires c κs = let e = c .before in lent-layer (store-here (e .before)) (e .end .ensures)
 
-count-used-requires : tie.Need-count-used-requires
-count-used-requires c κs = let e = c .before .before in lent-some (store-here (e .before)) (e .end .ensures)
+has-room-requires : tie.Need-has-room-requires
+has-room-requires c κs = let e = c .before .before in lent-some (store-here (e .before)) (e .end .ensures)
 
--- the words that were counted are those of the definition
+-- the words that the code works on are those of the definition
 words-here : (c : tie.After-last-word)
     → let e = c .before .before in
     let s = e .before .before .before .before .before .args .store .now in
     ended (take (length s - e .end .result) (drop (e .end .result) s)) (c .last-word .result) ≡ wordsIn (e .before .before .capacity .result) s
 words-here c = let e = c .before .before in words-are (store-here (e .before)) (e .end .ensures) (small (e .before)) (c .last-word .ensures)
 
-used-here : (c : tie.After-count-used)
+room-is : (c : tie.After-has-room)
     → let e = c .before .before .before in
-    let s = e .before .before .before .before .before .args .store .now in
-    c .count-used .result ≡ used (wordsIn (e .before .before .capacity .result) s)
-used-here c = c .count-used .ensures ∙ ap used (words-here (c .before))
-
-few : (c : tie.After-count-used) → c .count-used .result ≤ 262144
-few c =
-    let l = c .before in
-    let e = l .before .before in
-    omega (arith, c .count-used .ensures, few-used (store-here (e .before)) (e .end .ensures) (small (e .before)) (l .last-word .ensures))
-
-mul-need : tie.Need-mul-need
-mul-need c = omega (arith, few c)
-
-add-need : tie.Need-add-need
-add-need c = omega (arith, few c)
+    let a = e .before .before .before .before .before .args in
+    leb (mapLen (wordsIn (e .before .before .capacity .result) (a .store .now))) (length (a .buf .now)) ≡ c .has-room .result
+room-is c =
+    let e = c .before .before .before in
+    sym (c .has-room .ensures ∙ ap (λ (ws : List ℕ). leb (mapLen ws) (length (e .before .before .before .before .before .args .buf .now))) (words-here (c .before)))
 
 returns-2 : tie.Need-returns-2
 returns-2 c =
-    let u = c .before in
-    let e = u .before .before .before in
-    write-8 (store-here (e .before)) (e .before .before .before .before .before .args .buf .now) (omega (arith, used-here u, c .if2 .taken))
+    let r = c .before in
+    let e = r .before .before .before in
+    write-8 (store-here (e .before)) (e .before .before .before .before .before .args .buf .now) (room-is r ∙ not-true _ (c .if2 .taken))
 
-put-entries-requires : tie.Need-put-entries-requires
-put-entries-requires c κs =
-    let e2 = c .before in
-    let u = e2 .before in
-    let e = u .before .before .before in
-    (lent-some (store-here (e .before)) (e .end .ensures), record { room = omega (arith, u .count-used .ensures, e2 .if2 .left) })
+has-room : (c : tie.Else2)
+    → let e = c .before .before .before .before in
+    let a = e .before .before .before .before .before .args in
+    leb (mapLen (wordsIn (e .before .before .capacity .result) (a .store .now))) (length (a .buf .now)) ≡ true
+has-room c = room-is (c .before) ∙ not-false _ (c .if2 .left)
 
-put-head-requires : tie.Need-put-head-requires
-put-head-requires c κs = search needs
+put-map-requires : tie.Need-put-map-requires
+put-map-requires c κs =
+    let f = c .before in
+    let e = f .before .before .before .before in
+    (lent-some (store-here (e .before)) (e .end .ensures), record { room = leb-true _ _ (sym (f .before .has-room .ensures) ∙ not-false _ (f .if2 .left)) })
 
 same-length : tie.Need-same-length
 same-length c = search needs
 
 returns-3 : tie.Need-returns-3
 returns-3 c =
-    let h = c .before .before in
-    let p = h .before .before .before .before in
-    let e2 = p .before .before in
-    let u = e2 .before in
-    let e = u .before .before .before in
-    let n = e .before .before .capacity .result in
+    let p = c .before .before in
+    let f = p .before .before in
+    let l = f .before .before in
+    let e = l .before .before in
     let a = e .before .before .before .before .before .args in
-    let w = words-here (u .before) in
-    let g = used-here u in
-    write-done (store-here (e .before)) (a .buf .now) (16 + 12 * u .count-used .result) (h .put-head .last .0)
-    (omega (arith, g, e2 .if2 .left)) (ap (λ (k : ℕ). 16 + 12 * k) g)
-    (h .put-head .ensures
-    ∙ ap₂ (λ (x : List ℕ) (k : ℕ). sets x 0 (headOf (e .before .before .capacity .result) k (u .count-used .result)))
-    (p .put-entries .ensures .1 ∙ ap (λ (x : List ℕ). sets (a .buf .now) 16 (entries 0 x)) w) (p .put-entries .ensures .0 ∙ ap countAll w)
-    ∙ ap (λ (k : ℕ). sets (sets (a .buf .now) 16 (entries 0 (wordsIn (e .before .before .capacity .result) (a .store .now)))) 0
-    (headOf (e .before .before .capacity .result) (countAll (wordsIn (e .before .before .capacity .result) (a .store .now))) k)) g
-    ∙ map-sets (a .buf .now) (e .before .before .capacity .result) (wordsIn (e .before .before .capacity .result) (a .store .now)) (omega (arith, g, e2 .if2 .left)))
+    write-done (store-here (e .before)) (a .buf .now) (p .put-map .result) (p .put-map .last .1 .1 .1 .0) (has-room f)
+    (p .put-map .ensures .0 ∙ ap (λ (ws : List ℕ). mapLen ws) (words-here l))
+    (p .put-map .ensures .1 ∙ ap (λ (ws : List ℕ). sets (a .buf .now) 0 (mapOf (e .before .before .capacity .result) ws)) (words-here l))
 
 pub write-spec : {M : Type 1} → statement M
 write-spec =
@@ -133,11 +118,8 @@ write-spec =
     part-layer-start
     part-layer-end
     last-word-requires
-    count-used-requires
-    mul-need
-    add-need
+    has-room-requires
     returns-2
-    put-entries-requires
-    put-head-requires
+    put-map-requires
     same-length
     returns-3)
