@@ -9,6 +9,7 @@ use Rattle.changes.specs.Calls.{changeOf as ofStores}
 use Rattle.slots.specs.Calls.{changeOf as ofSlots}
 use Rattle.lists.specs.Calls.{changeOf as ofLists}
 use Rattle.walks.specs.Calls.{changeOf as ofWalks}
+use Rattle.maps.specs.Calls.{changeOf as ofMaps}
 use Rattle.calls.specs.Calls.{orElse, andThen, changeOf, askOf, callOf}
 
 then-known : {r : Said} {l : List ℕ} (x : Left) (f : List ℕ → Left) → left r l ≡ x → r .count < 4 → left r l ≡ andThen x f
@@ -51,8 +52,11 @@ module _ (desk : List ℕ) (w count : ℕ) {r : Said} {l : List ℕ} (e : left r
   abbrev asked : List ℕ → Left
   asked d = left (askOf d w count) d
 
+  abbrev mapped : List ℕ → Left
+  mapped d = andThen (ofMaps d w count) asked
+
   abbrev walked : List ℕ → Left
-  walked d = andThen (ofWalks d w count) asked
+  walked d = andThen (ofWalks d w count) mapped
 
   pub call-changed : r .count < 4 → left r l ≡ callOf desk w count
   unfolding callOf
@@ -61,9 +65,16 @@ module _ (desk : List ℕ) (w count : ℕ) {r : Said} {l : List ℕ} (e : left r
   module _ (h : 4 ≤ r .count) {n : Said} {m : List ℕ} (f : left n m ≡ ofWalks l w count) where
     pub call-walked : n .count < 4 → left n m ≡ callOf desk w count
     unfolding callOf
-    call-walked k = then-next (changeOf desk w count) walked e h (then-known (ofWalks l w count) asked f k)
+    call-walked k = then-next (changeOf desk w count) walked e h (then-known (ofWalks l w count) mapped f k)
 
-    pub call-asked : 4 ≤ n .count → {x : Said} → x ≡ askOf m w count → left x m ≡ callOf desk w count
-    unfolding callOf
-    call-asked k q =
-        then-next (changeOf desk w count) walked e h (then-next (ofWalks l w count) asked f k (ap (λ (x : Said). left x m) q))
+    module _ (k : 4 ≤ n .count) {o : Said} {d : List ℕ} (g : left o d ≡ ofMaps m w count) where
+      pub call-mapped : o .count < 4 → left o d ≡ callOf desk w count
+      unfolding callOf
+      call-mapped j =
+          then-next (changeOf desk w count) walked e h (then-next (ofWalks l w count) mapped f k (then-known (ofMaps m w count) asked g j))
+
+      pub call-asked : 4 ≤ o .count → {x : Said} → x ≡ askOf d w count → left x d ≡ callOf desk w count
+      unfolding callOf
+      call-asked j q =
+          then-next (changeOf desk w count) walked e h
+          (then-next (ofWalks l w count) mapped f k (then-next (ofMaps m w count) asked g j (ap (λ (x : Said). left x d) q)))

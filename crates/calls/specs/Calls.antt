@@ -10,6 +10,7 @@ use Rattle.changes.specs.Calls.{changeOf as ofStores}
 use Rattle.slots.specs.Calls.{changeOf as ofSlots}
 use Rattle.lists.specs.Calls.{changeOf as ofLists}
 use Rattle.walks.specs.Calls.{changeOf as ofWalks}
+use Rattle.maps.specs.Calls.{changeOf as ofMaps}
 use Rattle.asks.specs.Calls.{askOf as ofSets}
 use Rattle.looks.specs.Calls.{askOf as ofWords}
 use Rattle.bits.specs.Calls.{askOf as ofBits}
@@ -35,4 +36,4 @@ askOf desk w count = orElse (ofSets desk w count) (orElse (ofWords desk w count)
 
 unfoldable pub callOf : List ℕ → ℕ → ℕ → Left
 callOf desk w count =
-    andThen (changeOf desk w count) (λ d. andThen (ofWalks d w count) (λ d′. left (askOf d′ w count) d′))
+    andThen (changeOf desk w count) (λ d. andThen (ofWalks d w count) (λ d′. andThen (ofMaps d′ w count) (λ d″. left (askOf d″ w count) d″)))

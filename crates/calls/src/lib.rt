@@ -47,5 +47,9 @@ pub fn call(desk: &mut [u64], word: u64, count: usize) -> Said
     if b.count < 4 {
         return b;
     }
+    let m = maps::change(desk, word, count);
+    if m.count < 4 {
+        return m;
+    }
     ask(desk, word, count)
 }
