@@ -4,6 +4,8 @@
 //! unchanged crate answers, in the form of docs/REPLAY.md. `oracle/compare` builds it and runs both sides.
 mod answers;
 mod merge_scripts;
+mod map_scripts;
+mod maps;
 mod model;
 mod scripts;
 mod store_scripts;
@@ -31,13 +33,15 @@ fn main() -> io::Result<()> {
         ["script", "fill"] => walk_scripts::fill(&mut out)?,
         ["script", "superset"] => walk_scripts::superset(&mut out)?,
         ["script", "merge"] => merge_scripts::merge(&mut out)?,
+        ["script", "map"] => map_scripts::map(&mut out)?,
+        ["script", "damage"] => map_scripts::damage(&mut out)?,
         ["answer"] => {
             let mut script = Vec::new();
             io::stdin().lock().read_to_end(&mut script)?;
             answers::all(&script, &mut out)?;
         }
         _ => {
-            eprintln!("usage: oracle script average | row | bad | small | history | top | unsound | refusal | walk | cursor | fill | superset | merge; oracle answer <SCRIPT");
+            eprintln!("usage: oracle script average | row | bad | small | history | top | unsound | refusal | walk | cursor | fill | superset | merge | map | damage; oracle answer <SCRIPT");
             std::process::exit(2);
         }
     }

@@ -2,6 +2,7 @@
 //!
 //! Every slot that is a store has a set of the crate while it is used: every answer and every word comes from that set, also where
 //! words were poked to what no set has. The crate hands out its words to be read only, so they are written at their addresses.
+use crate::maps;
 use crate::model;
 use crate::walks::{self, Answer, Cursor, Step};
 use hibitset::{BitSet, BitSetLike};
@@ -10,6 +11,9 @@ use std::mem::size_of;
 const MEMORY: usize = 550_000;
 
 const SLOTS: usize = 16;
+
+/// A slot above this many words holds no map.
+const MAPPED: usize = 1_024;
 
 /// A slot above this many words is not dumped.
 const DUMPED: usize = 1_000;
@@ -166,6 +170,8 @@ impl Stores {
             ("next", &[t, budget]) if t < SLOTS as u64 => self.next(s, t as usize, budget),
             ("fill", &[t, budget, d]) if t < SLOTS as u64 && d < SLOTS as u64 => self.fill(s, t as usize, budget, d as usize),
             ("first", &[budget]) => Some(told(self.first(s, budget))),
+            ("write", &[t]) if t < SLOTS as u64 => self.write(s, t as usize),
+            ("read", &[t]) if t < SLOTS as u64 => self.read(s, t as usize),
             _ => None,
         }
     }
@@ -432,5 +438,40 @@ impl Stores {
     fn first(&mut self, s: usize, budget: u64) -> Result<Step, u64> {
         let set = self.store(s)?;
         Ok(walks::next(&set.bits, &walks::start(&set.bits).cursor, budget))
+    }
+
+    /// The bytes of a slot that may hold a map: its words modulo 256.
+    fn bytes(&mut self, m: usize) -> Option<Vec<u8>> {
+        Some(self.words(m)).filter(|words| words.len() <= MAPPED).map(|words| words.iter().map(|&w| w as u8).collect())
+    }
+
+    /// The map of the crate's members of slot s goes into slot m.
+    fn write(&mut self, m: usize, s: usize) -> Option<Vec<u64>> {
+        let mut bytes = self.bytes(m)?;
+        let answer = self.store(s).and_then(|set| {
+            let ids: Vec<u32> = (0..set.n as u32).filter(|&id| set.bits.contains(id)).collect();
+            maps::write(set.n, &ids, &mut bytes)
+        });
+        self.settle(m);
+        self.put_back(m);
+        let from = self.slots[m].from;
+        for (i, &b) in bytes.iter().enumerate() {
+            self.memory[from + i] = b.into();
+        }
+        paper(answer)
+    }
+
+    /// The map in slot m is read into slot s, as a new set of the crate to which its ids are added.
+    fn read(&mut self, m: usize, s: usize) -> Option<Vec<u64>> {
+        let bytes = self.bytes(m)?;
+        let answer = self.store(s).and_then(|set| {
+            let ids = maps::read(&bytes, set.n)?;
+            *set = Set::new(set.n);
+            for id in ids {
+                set.bits.add(id);
+            }
+            Ok(0)
+        });
+        paper(answer)
     }
 }

@@ -6,7 +6,7 @@ use Prim.Native.Nat.{ℕ, suc, _+_, _≤_, _<_}
 use native.Mathlib.Omega.{arith}
 use lib.ListN.{length, take, drop, length-append, length-drop}
 use lib.Seq.{take-append-seam}
-use Rattle.util.specs.Outcome.{Settled}
+use Rattle.util.specs.Outcome.{Settled, settles}
 use Rattle.store.specs.Layout.{top, cap, isStore}
 use Rattle.store.specs.Word.{word, Words64}
 use Rattle.store.proofs.Geometry.{store-is}

@@ -12,6 +12,7 @@ use Rattle.lists.specs.Calls.{changeOf as ofLists}
 use Rattle.walks.specs.Calls.{changeOf as ofWalks}
 use Rattle.fills.specs.Calls.{changeOf as ofFills}
 use Rattle.merges.specs.Calls.{changeOf as ofMerges}
+use Rattle.maps.specs.Calls.{changeOf as ofMaps}
 use Rattle.asks.specs.Calls.{askOf as ofSets}
 use Rattle.looks.specs.Calls.{askOf as ofWords}
 use Rattle.readers.specs.Calls.{askOf as ofReaders}
@@ -24,21 +25,17 @@ known n = ltb (n .count) 4
 abbrev pub orElse : Said → Said → Said
 orElse n m = cond (known n) n m
 
--- the same where the desk may have been written to
-abbrev pub andThen : Left → (List ℕ → Left) → Left
-andThen x f = cond (known (x .said)) x (f (x .lent))
-
--- three in turn
-abbrev pub three : (List ℕ → ℕ → ℕ → Left) → (List ℕ → ℕ → ℕ → Left) → (List ℕ → ℕ → ℕ → Left) → List ℕ → ℕ → ℕ → Left
-three f g h desk w count = andThen (f desk w count) (λ d. andThen (g d w count) (λ d′. h d′ w count))
+-- the same of two crates of which the first may have written to the desk
+abbrev pub then : (List ℕ → ℕ → ℕ → Left) → (List ℕ → ℕ → ℕ → Left) → List ℕ → ℕ → ℕ → Left
+then f g desk w count = let x = f desk w count in cond (known (x .said)) x (g (x .lent) w count)
 
 -- the commands that may write to the desk
 unfoldable pub changeOf : List ℕ → ℕ → ℕ → Left
-changeOf desk w count = three ofStores ofSlots ofLists desk w count
+changeOf = then ofStores (then ofSlots ofLists)
 
 -- those that go by more than one slot
 unfoldable pub walkOf : List ℕ → ℕ → ℕ → Left
-walkOf desk w count = three ofWalks ofFills ofMerges desk w count
+walkOf = then ofWalks (then ofFills ofMerges)
 
 -- those that only read it
 unfoldable pub askOf : List ℕ → ℕ → ℕ → Said
@@ -47,5 +44,9 @@ askOf desk w count = orElse (ofSets desk w count) (orElse (ofWords desk w count)
 abbrev pub asked : List ℕ → ℕ → ℕ → Left
 asked desk w count = left (askOf desk w count) desk
 
+-- maps, and those
+unfoldable pub otherOf : List ℕ → ℕ → ℕ → Left
+otherOf = then ofMaps asked
+
 unfoldable pub callOf : List ℕ → ℕ → ℕ → Left
-callOf desk w count = three changeOf walkOf asked desk w count
+callOf = then changeOf (then walkOf otherOf)

@@ -2,7 +2,7 @@
 // A count of 4 says that it does not.
 ghost use mathlib.Core.Path.{_≡_};
 ghost use Rattle.said.specs.Numbers.{left};
-ghost use Rattle.calls.specs.Calls.{changeOf, walkOf, askOf, callOf};
+ghost use Rattle.calls.specs.Calls.{changeOf, walkOf, askOf, otherOf, callOf};
 use said::Said;
 
 // The commands that may write to the desk.
@@ -54,6 +54,17 @@ fn ask(desk: &[u64], word: u64, count: usize) -> Said
     bits::ask(desk, word, count)
 }
 
+// The lines of maps, and the commands that only read.
+fn other(desk: &mut [u64], word: u64, count: usize) -> Said
+    ensures { λ r. ⌜ left r (now (desk .exit)) ≡ otherOf (now (desk .entry)) word count ⌝ }
+{
+    let a = maps::change(desk, word, count);
+    if a.count < 4 {
+        return a;
+    }
+    ask(desk, word, count)
+}
+
 // Answers a line by its command word and the count of its numbers, which stand on the desk.
 pub fn call(desk: &mut [u64], word: u64, count: usize) -> Said
     ensures { λ r. ⌜ left r (now (desk .exit)) ≡ callOf (now (desk .entry)) word count ⌝ }
@@ -66,5 +77,5 @@ pub fn call(desk: &mut [u64], word: u64, count: usize) -> Said
     if b.count < 4 {
         return b;
     }
-    ask(desk, word, count)
+    other(desk, word, count)
 }

@@ -1,9 +1,6 @@
 -- `calls::call` meets its contract. Assumes nothing.
-use mathlib.Core.Path.{ap}
-use Rattle.said.specs.Numbers.{left}
-use Rattle.said.specs.declared.Said.{Said}
-use Rattle.calls.specs.Calls.{changeOf, walkOf, askOf, asked, callOf}
-use Rattle.calls.proofs.Links.{first-of, second-of, third-of}
+use Rattle.calls.specs.Calls.{then, changeOf, walkOf, otherOf, callOf}
+use Rattle.calls.proofs.Links.{first-of, next-of}
 use borrow.Author.Needs.{needs}
 use Rattle.calls.proofs.call.Statement.{statement}
 use Rattle.calls.proofs.call.Tie as tie
@@ -16,7 +13,7 @@ same-length c = search needs
 
 returns : tie.Need-returns
 unfolding callOf
-returns c = first-of changeOf walkOf asked _ _ _ (c .before .before .before .before .change .ensures) (c .if1 .taken)
+returns c = first-of changeOf (then walkOf otherOf) _ _ _ (c .before .before .before .before .change .ensures) (c .if1 .taken)
 
 walk-requires : tie.Need-walk-requires
 walk-requires c κs = search needs
@@ -29,10 +26,11 @@ unfolding callOf
 returns-2 c =
     let b = c .before .before .before .before in
     let t = b .before .before in
-    second-of changeOf walkOf asked _ _ _ (t .before .before .before .before .change .ensures) (t .if1 .left) (b .walk .ensures) (c .if2 .taken)
+    next-of changeOf (then walkOf otherOf) _ _ _ (t .before .before .before .before .change .ensures) (t .if1 .left)
+    (first-of walkOf otherOf _ _ _ (b .walk .ensures) (c .if2 .taken))
 
-ask-requires : tie.Need-ask-requires
-ask-requires c κs = search needs
+other-requires : tie.Need-other-requires
+other-requires c κs = search needs
 
 same-length-3 : tie.Need-same-length-3
 same-length-3 c = search needs
@@ -40,10 +38,12 @@ same-length-3 c = search needs
 returns-3 : tie.Need-returns-3
 unfolding callOf
 returns-3 c =
-    let u = c .before .before in
+    let k = c .before .before in
+    let u = k .before .before in
     let b = u .before .before .before .before in
     let t = b .before .before in
-    third-of changeOf walkOf asked _ _ _ (t .before .before .before .before .change .ensures) (t .if1 .left) (b .walk .ensures) (u .if2 .left) (ap (λ (x : Said). left x _) (c .ask .ensures))
+    next-of changeOf (then walkOf otherOf) _ _ _ (t .before .before .before .before .change .ensures) (t .if1 .left)
+    (next-of walkOf otherOf _ _ _ (b .walk .ensures) (u .if2 .left) (k .other .ensures))
 
 pub call-spec : {M : Type 1} → statement M
 call-spec =
@@ -55,6 +55,6 @@ call-spec =
     walk-requires
     same-length-2
     returns-2
-    ask-requires
+    other-requires
     same-length-3
     returns-3)

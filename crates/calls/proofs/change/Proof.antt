@@ -2,8 +2,8 @@
 use Rattle.changes.specs.Calls.{changeOf as ofStores}
 use Rattle.slots.specs.Calls.{changeOf as ofSlots}
 use Rattle.lists.specs.Calls.{changeOf as ofLists}
-use Rattle.calls.specs.Calls.{changeOf}
-use Rattle.calls.proofs.Links.{first-of, second-of, third-of}
+use Rattle.calls.specs.Calls.{then, changeOf}
+use Rattle.calls.proofs.Links.{first-of, next-of}
 use borrow.Author.Needs.{needs}
 use Rattle.calls.proofs.change.Statement.{statement}
 use Rattle.calls.proofs.change.Tie as tie
@@ -16,7 +16,7 @@ same-length c = search needs
 
 returns : tie.Need-returns
 unfolding changeOf
-returns c = first-of ofStores ofSlots ofLists _ _ _ (c .before .before .before .before .change .ensures) (c .if1 .taken)
+returns c = first-of ofStores (then ofSlots ofLists) _ _ _ (c .before .before .before .before .change .ensures) (c .if1 .taken)
 
 change-requires-2 : tie.Need-change-requires-2
 change-requires-2 c κs = search needs
@@ -29,7 +29,8 @@ unfolding changeOf
 returns-2 c =
     let b = c .before .before .before .before in
     let t = b .before .before in
-    second-of ofStores ofSlots ofLists _ _ _ (t .before .before .before .before .change .ensures) (t .if1 .left) (b .change2 .ensures) (c .if2 .taken)
+    next-of ofStores (then ofSlots ofLists) _ _ _ (t .before .before .before .before .change .ensures) (t .if1 .left)
+    (first-of ofSlots ofLists _ _ _ (b .change2 .ensures) (c .if2 .taken))
 
 change-requires-3 : tie.Need-change-requires-3
 change-requires-3 c κs = search needs
@@ -44,7 +45,8 @@ returns-3 c =
     let u = k .before .before in
     let b = u .before .before .before .before in
     let t = b .before .before in
-    third-of ofStores ofSlots ofLists _ _ _ (t .before .before .before .before .change .ensures) (t .if1 .left) (b .change2 .ensures) (u .if2 .left) (k .change3 .ensures)
+    next-of ofStores (then ofSlots ofLists) _ _ _ (t .before .before .before .before .change .ensures) (t .if1 .left)
+    (next-of ofSlots ofLists _ _ _ (b .change2 .ensures) (u .if2 .left) (k .change3 .ensures))
 
 pub change-spec : {M : Type 1} → statement M
 change-spec =

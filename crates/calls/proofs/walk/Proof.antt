@@ -2,8 +2,8 @@
 use Rattle.walks.specs.Calls.{changeOf as ofWalks}
 use Rattle.fills.specs.Calls.{changeOf as ofFills}
 use Rattle.merges.specs.Calls.{changeOf as ofMerges}
-use Rattle.calls.specs.Calls.{walkOf}
-use Rattle.calls.proofs.Links.{first-of, second-of, third-of}
+use Rattle.calls.specs.Calls.{then, walkOf}
+use Rattle.calls.proofs.Links.{first-of, next-of}
 use borrow.Author.Needs.{needs}
 use Rattle.calls.proofs.walk.Statement.{statement}
 use Rattle.calls.proofs.walk.Tie as tie
@@ -16,7 +16,7 @@ same-length c = search needs
 
 returns : tie.Need-returns
 unfolding walkOf
-returns c = first-of ofWalks ofFills ofMerges _ _ _ (c .before .before .before .before .change .ensures) (c .if1 .taken)
+returns c = first-of ofWalks (then ofFills ofMerges) _ _ _ (c .before .before .before .before .change .ensures) (c .if1 .taken)
 
 change-requires-2 : tie.Need-change-requires-2
 change-requires-2 c κs = search needs
@@ -29,7 +29,8 @@ unfolding walkOf
 returns-2 c =
     let b = c .before .before .before .before in
     let t = b .before .before in
-    second-of ofWalks ofFills ofMerges _ _ _ (t .before .before .before .before .change .ensures) (t .if1 .left) (b .change2 .ensures) (c .if2 .taken)
+    next-of ofWalks (then ofFills ofMerges) _ _ _ (t .before .before .before .before .change .ensures) (t .if1 .left)
+    (first-of ofFills ofMerges _ _ _ (b .change2 .ensures) (c .if2 .taken))
 
 change-requires-3 : tie.Need-change-requires-3
 change-requires-3 c κs = search needs
@@ -44,7 +45,8 @@ returns-3 c =
     let u = k .before .before in
     let b = u .before .before .before .before in
     let t = b .before .before in
-    third-of ofWalks ofFills ofMerges _ _ _ (t .before .before .before .before .change .ensures) (t .if1 .left) (b .change2 .ensures) (u .if2 .left) (k .change3 .ensures)
+    next-of ofWalks (then ofFills ofMerges) _ _ _ (t .before .before .before .before .change .ensures) (t .if1 .left)
+    (next-of ofFills ofMerges _ _ _ (b .change2 .ensures) (u .if2 .left) (k .change3 .ensures))
 
 pub walk-spec : {M : Type 1} → statement M
 walk-spec =

@@ -1,0 +1,5 @@
+pub mod Words
+pub mod Bytes
+pub mod Loops
+pub mod Layer
+pub mod Answers

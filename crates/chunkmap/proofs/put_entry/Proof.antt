@@ -1,0 +1,53 @@
+-- `chunkmap::put_entry` meets its contract. Assumes nothing.
+use mathlib.Core.List.{List}
+use mathlib.Core.Path.{sym, ap, _∙_}
+use Prim.Native.Nat.{ℕ, _+_}
+use native.Mathlib.Omega.{arith}
+use borrow.Author.Needs.{needs}
+use lib.ListN.{length}
+use lib.Seq.{sets, length-sets}
+use Rattle.store.proofs.Build.{flag-zero, flag-one}
+use Rattle.le.specs.Bytes.{le}
+use Rattle.chunkmap.proofs.Bytes.{entry-none, entry-some}
+use Rattle.chunkmap.proofs.put_entry.Statement.{statement}
+use Rattle.chunkmap.proofs.put_entry.Tie as tie
+
+returns : tie.Need-returns
+returns c =
+    let a = c .before .before .args in
+    (omega (arith, flag-zero (a .x) (c .if1 .taken)), sym (entry-none (a .buf .now) (a .o) (a .q) (a .x) (c .if1 .taken)))
+
+put-requires : tie.Need-put-requires
+put-requires c κs =
+    let n = c .before in
+    omega (arith, flag-one (n .before .before .args .x) (n .if1 .left), n .before .before .pre)
+
+add-put : tie.Need-add-put
+add-put c = search needs
+
+put-requires-2 : tie.Need-put-requires-2
+put-requires-2 c κs =
+    let p1 = c .before .before .before in
+    let n = p1 .before .before in
+    let a = n .before .before .args in
+    omega (arith, flag-one (a .x) (n .if1 .left), n .before .before .pre, ap length (p1 .put .ensures), length-sets (a .buf .now) (a .o) (le 4 (a .q)))
+
+add-result : tie.Need-add-result
+add-result c = search needs
+
+same-length : tie.Need-same-length
+same-length c = search needs
+
+returns-2 : tie.Need-returns-2
+returns-2 c =
+    let p2 = c .before .before in
+    let p1 = p2 .before .before .before .before in
+    let n = p1 .before .before in
+    let a = n .before .before .args in (
+      omega (arith, flag-one (a .x) (n .if1 .left)),
+      p2 .put2 .ensures ∙ ap (λ (x : List ℕ). sets x (a .o + 4) (le 8 (a .x))) (p1 .put .ensures)
+          ∙ sym (entry-some (a .buf .now) (a .o) (a .q) (a .x) (n .if1 .left)),
+    )
+
+pub put-entry-spec : {M : Type 1} → statement M
+put-entry-spec = tie.close (tie.spec returns put-requires add-put put-requires-2 add-result same-length returns-2)

@@ -1,0 +1,4 @@
+pub mod Map
+pub mod Answer
+pub mod Calls
+pub mod Steps

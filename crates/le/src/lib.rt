@@ -1,0 +1,1 @@
+// No code: little-endian numbers in lists of bytes.

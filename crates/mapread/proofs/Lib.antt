@@ -1,0 +1,4 @@
+pub mod Right
+pub mod Loops
+pub mod Layer
+pub mod Answers

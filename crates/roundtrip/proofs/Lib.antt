@@ -1,0 +1,5 @@
+pub mod Written
+pub mod Accepted
+pub mod Stores
+pub mod Counts
+pub mod Theorems
