@@ -1,11 +1,11 @@
 -- What is known where nothing is refused.
 use mathlib.Core.Bool.{Bool, true, false, cond, _&&_}
-use mathlib.Core.List.{List, [], _∷_, map}
+use mathlib.Core.List.{List, map}
 use mathlib.Core.Logic.{_≢_}
-use mathlib.Core.Path.{_≡_, refl, sym, ap, _∙_, subst}
+use mathlib.Core.Path.{_≡_, refl, subst}
 use Prim.Native.Nat.{ℕ, zero, suc, _≤_, min}
 use native.Mathlib.Omega.{arith}
-use borrow.Author.Tests.{leb-true, eqb-true, eqb-false}
+use borrow.Author.Tests.{eqb-true, eqb-false}
 use lib.Dec.{leb, eqb}
 use lib.ListN.{length}
 use Rattle.util.proofs.Same.{both}
@@ -47,6 +47,39 @@ sooner-none x y e = go (eqb x 0) (eqb y 0) refl refl e
     go true q p r e = (eqb-true x 0 p, e)
     go false true p r e = (e, eqb-true y 0 r)
     go false false p r e = absurd (omega (arith, eqb-false x 0 p, eqb-false y 0 r, e))
+
+-- refusals 2 and 5 alone come from the slices
+beside-small : (N : ℕ) (s : List ℕ) → besideOf N s ≤ 5
+unfolding besideOf
+beside-small N s = go (eqb (length s) 0) (isStore s) (eqb (cap s) N)
+  where
+    go : (x y z : Bool) → cond x 0 (cond y (cond z 0 5) 2) ≤ 5
+    go true y z = omega arith
+    go false true true = omega arith
+    go false true false = omega arith
+    go false false z = omega arith
+
+sooner-small : (x y : ℕ) → x ≤ 5 → y ≤ 5 → sooner x y ≤ 5
+unfolding sooner
+sooner-small x y h l = go (eqb x 0) (eqb y 0)
+  where
+    go : (p q : Bool) → cond p y (cond q x (min x y)) ≤ 5
+    go true q = l
+    go false true = h
+    go false false = omega arith
+
+pub stores-small : (ss : List (List ℕ)) → storesOf ss ≤ 5
+unfolding storesOf
+stores-small ss = go (isStore (nth ss 0))
+  where
+    N : ℕ
+    N = cap (nth ss 0)
+
+    go : (x : Bool) → cond x (sooner (sooner (besideOf N (nth ss 1)) (besideOf N (nth ss 2))) (besideOf N (nth ss 3))) 2 ≤ 5
+    go true =
+        sooner-small (sooner (besideOf N (nth ss 1)) (besideOf N (nth ss 2))) (besideOf N (nth ss 3))
+        (sooner-small (besideOf N (nth ss 1)) (besideOf N (nth ss 2)) (beside-small N (nth ss 1)) (beside-small N (nth ss 2))) (beside-small N (nth ss 3))
+    go false = omega arith
 
 pub formula-one : (ss : List (List ℕ)) (cs : List ℕ) → isFormula ss cs ≡ true → left (map length ss) cs 0 ≡ 1
 unfolding isFormula

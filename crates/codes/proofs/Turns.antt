@@ -1,19 +1,19 @@
 -- The kind of a code, by the tests that the code makes; what it takes; one turn of the check.
-use mathlib.Core.Bool.{Bool, cond, _&&_}
-use mathlib.Core.List.{List, [], _∷_}
+use mathlib.Core.Bool.{cond, _&&_}
+use mathlib.Core.List.{List}
 use mathlib.Core.Logic.{_≢_, _⊎_, ⊎-elim}
 use mathlib.Core.Path.{_≡_, refl, sym, ap, _∙_}
 use Prim.Native.Nat.{ℕ, suc, _+_, _-_, _≤_, _<_}
 use native.Mathlib.Decide.{ℕ-discrete}
 use native.Mathlib.Numerals.{add-one}
 use native.Mathlib.Omega.{arith}
-use borrow.Author.Tests.{lt-ltb, le-ltb, le-leb, lt-leb, eq-eqb, ne-eqb}
-use lib.Dec.{leb, ltb, eqb}
+use borrow.Author.Tests.{lt-ltb, le-ltb, le-leb, lt-leb, ne-eqb}
+use lib.Dec.{leb, ltb}
 use lib.ListN.{length, getD, drop, drop-of-length-le}
 use lib.Seq.{drop-cons}
-use Rattle.codes.specs.Codes.{Kind, kindOf, takes, takesIn, left}
+use Rattle.codes.specs.Codes.{kindOf, takes, takesIn, left}
 use Rattle.codes.specs.Steps.{Going}
-use Rattle.codes.specs.Codes.Kind.{isStore, isBoth, isEither, isOneOf, isInverse, isEvery, isUnknown}
+use Rattle.codes.specs.Codes.Kind.{isStore, isUnknown}
 
 -- ---- the kinds
 

@@ -1,6 +1,6 @@
 -- What is refused before a formula is evaluated. Document 01: "Four store slices are lent. Store 0 must be a store and gives N; an empty
 -- slice among the other three means not lent."
-use mathlib.Core.Bool.{Bool, cond}
+use mathlib.Core.Bool.{cond}
 use mathlib.Core.List.{List}
 use Prim.Native.Nat.{ℕ, min}
 use lib.Dec.{eqb}

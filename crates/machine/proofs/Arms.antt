@@ -1,7 +1,7 @@
 -- What each arm of the code makes, and one turn of the loop over the codes.
-use mathlib.Core.List.{List, [], _∷_}
+use mathlib.Core.List.{List}
 use mathlib.Core.Logic.{_≢_, _⊎_, ⊎-elim}
-use mathlib.Core.Path.{_≡_, refl, sym, ap, ap₂, _∙_, subst}
+use mathlib.Core.Path.{_≡_, refl, sym, ap, ap₂, _∙_}
 use Prim.Native.Nat.{ℕ, zero, suc, _+_, _%_, _≤_, _<_}
 use native.Mathlib.Decide.{ℕ-discrete}
 use native.Mathlib.Numerals.{add-one}
@@ -11,8 +11,7 @@ use lib.ListN.{length, getD, set, drop, drop-of-length-le}
 use lib.Seq.{drop-cons}
 use Rattle.util.specs.Word.{flip}
 use Rattle.codes.specs.Tree.{xorIn, notIn}
-use Rattle.codes.specs.Codes.{Kind, kindOf}
-use Rattle.codes.specs.Codes.Kind.{isStore, isUnknown}
+use Rattle.codes.specs.Codes.{kindOf}
 use Rattle.codes.proofs.Turns.{kind-store, kind-unknown}
 use Rattle.machine.specs.Machine.{Stack, made, moves, stepped, evaluated, begun}
 use Rattle.machine.specs.Steps.{Going}

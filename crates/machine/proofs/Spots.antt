@@ -1,14 +1,12 @@
 -- Where the words of a layer stand, as the code computes it, and the bits that exist.
-use mathlib.Core.Bool.{cond}
-use mathlib.Core.Path.{_≡_, refl, sym, ap, ap₂, _∙_, subst}
+use mathlib.Core.Path.{_≡_, sym, ap, ap₂, _∙_, subst}
 use Prim.Native.Nat.{ℕ, zero, suc, _+_, _-_, _*_, _/_, _%_, _^_, _≤_, _<_, min}
 use native.Mathlib.Numerals.{add-one}
 use native.Mathlib.Omega.{arith}
 use borrow.Author.Tests.{lt-ltb, le-ltb}
-use lib.Dec.{ltb}
 use lib.Pow.{pow-pos}
 use Rattle.util.proofs.Bits.{shl-one}
-use Rattle.store.specs.Layout.{top, maxCap, folded, layerEnd, endOf}
+use Rattle.store.specs.Layout.{top, folded, layerEnd, endOf}
 use Rattle.store.proofs.Ends.{end0}
 use Rattle.store.proofs.Geometry.{end-step, ends-fall}
 use Rattle.codes.specs.Tree.{existing}

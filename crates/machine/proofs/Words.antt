@@ -1,20 +1,18 @@
 -- The word that the code evaluates is the definition's; and where nothing is refused it is the word of the tree.
-use mathlib.Core.Bool.{Bool, true, false, cond, _&&_}
+use mathlib.Core.Bool.{Bool, true, false, cond}
 use mathlib.Core.List.{List, [], _∷_, map}
-use mathlib.Core.Logic.{_≢_}
-use mathlib.Core.Path.{_≡_, refl, sym, ap, ap₂, _∙_, subst}
-use Prim.Native.Nat.{ℕ, zero, suc, _+_, _-_, _%_, _≤_, _<_, min}
+use mathlib.Core.Path.{_≡_, refl, sym, ap, _∙_, subst}
+use Prim.Native.Nat.{ℕ, zero, suc, _+_, _%_, _≤_, _<_}
 use native.Mathlib.Omega.{arith}
-use borrow.Author.Tests.{eqb-true, ltb-true, ltb-false}
-use lib.Dec.{leb, ltb, eqb}
-use lib.ListN.{length, getD, replicate, List·getD-eq-default}
-use Rattle.util.proofs.Same.{both}
-use Rattle.store.specs.Layout.{top, maxCap, room, layerLen, layerEnd, storeLen, cap, isStore, StoreOf, endOf}
+use borrow.Author.Tests.{ltb-true, ltb-false}
+use lib.Dec.{ltb}
+use lib.ListN.{length, getD, List·getD-eq-default}
+use Rattle.store.specs.Layout.{top, maxCap, room, layerLen, storeLen, cap, endOf}
 use Rattle.store.specs.Word.{word}
 use Rattle.store.proofs.Ends.{end-is}
-use Rattle.store.proofs.Geometry.{store-is, end-step}
+use Rattle.store.proofs.Geometry.{end-step}
 use Rattle.store.proofs.Words.{word-in, word-out}
-use Rattle.codes.specs.Tree.{existing, value, four, nth, treeWord}
+use Rattle.codes.specs.Tree.{existing, four, nth, treeWord}
 use Rattle.codes.specs.Codes.{treeOf}
 use Rattle.codes.proofs.Accepted.{Accepted, formula-one}
 use Rattle.machine.specs.Machine.{wordsIn, placesIn, placeOf, evaluated, begun, machineWord}
