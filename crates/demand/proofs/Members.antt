@@ -56,7 +56,7 @@ module _ (lw : ℕ → ℕ → ℕ) where
       let m : (p * 64 + i) % 64 ≡ i = omega arith in
       ap₂ (λ (x y : ℕ). bit (lw k x) y) d m
 
-  under-empty : (k q : ℕ) → lw k q ≡ 0 → under lw (suc k) q ≡ []
+  pub under-empty : (k q : ℕ) → lw k q ≡ 0 → under lw (suc k) q ≡ []
   unfolding under joined
   under-empty k q e = ap (λ (x : ℕ). joined (λ b. under lw k (q * 64 + b)) (bits x)) e ∙ ap (joined (λ b. under lw k (q * 64 + b))) bits-zero
 
