@@ -3,6 +3,8 @@
 //! `oracle script NAME` writes a script to standard output; `oracle answer` reads one from standard input and prints what the
 //! unchanged crate answers, in the form of docs/REPLAY.md. `oracle/compare` builds it and runs both sides.
 mod answers;
+mod formula_scripts;
+mod formulas;
 mod model;
 mod scripts;
 mod store_scripts;
@@ -28,13 +30,15 @@ fn main() -> io::Result<()> {
         ["script", "walk"] => walk_scripts::walk(&mut out)?,
         ["script", "cursor"] => walk_scripts::cursor(&mut out)?,
         ["script", "superset"] => walk_scripts::superset(&mut out)?,
+        ["script", "formula"] => formula_scripts::formula_script(&mut out)?,
+        ["script", "damaged"] => formula_scripts::damaged_script(&mut out)?,
         ["answer"] => {
             let mut script = Vec::new();
             io::stdin().lock().read_to_end(&mut script)?;
             answers::all(&script, &mut out)?;
         }
         _ => {
-            eprintln!("usage: oracle script average | row | bad | small | history | top | unsound | refusal | walk | cursor | superset; oracle answer <SCRIPT");
+            eprintln!("usage: oracle script average | row | bad | small | history | top | unsound | refusal | walk | cursor | superset | formula | damaged; oracle answer <SCRIPT");
             std::process::exit(2);
         }
     }

@@ -12,6 +12,7 @@ use Rattle.lists.specs.Calls.{changeOf as ofLists}
 use Rattle.walks.specs.Calls.{changeOf as ofWalks}
 use Rattle.asks.specs.Calls.{askOf as ofSets}
 use Rattle.looks.specs.Calls.{askOf as ofWords}
+use Rattle.formulas.specs.Calls.{askOf as ofFormulas}
 use Rattle.bits.specs.Calls.{askOf as ofBits}
 
 -- an answer, or what comes next where it is none
@@ -31,7 +32,8 @@ changeOf desk w count = andThen (ofStores desk w count) (λ d. andThen (ofSlots 
 
 -- those that only read it
 unfoldable pub askOf : List ℕ → ℕ → ℕ → Said
-askOf desk w count = orElse (ofSets desk w count) (orElse (ofWords desk w count) (ofBits desk w count))
+askOf desk w count =
+    orElse (ofSets desk w count) (orElse (ofWords desk w count) (orElse (ofFormulas desk w count) (ofBits desk w count)))
 
 unfoldable pub callOf : List ℕ → ℕ → ℕ → Left
 callOf desk w count =

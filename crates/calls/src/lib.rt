@@ -32,6 +32,10 @@ fn ask(desk: &[u64], word: u64, count: usize) -> Said
     if b.count < 4 {
         return b;
     }
+    let c = formulas::ask(desk, word, count);
+    if c.count < 4 {
+        return c;
+    }
     bits::ask(desk, word, count)
 }
 
