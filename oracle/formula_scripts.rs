@@ -68,7 +68,7 @@ pub fn formula_script(out: &mut impl Write) -> io::Result<()> {
     let r = &mut r;
     for &n in CAPACITIES.iter().chain(&[LIMIT]) {
         let stores = if n == LIMIT { 2 } else { 4 };
-        let rounds = if n == LIMIT { 20 } else { 40 };
+        let rounds = if n == LIMIT { 40 } else { 160 };
         let slots = if n == LIMIT { "0 1 16 16" } else { SLOTS };
         for s in 0..stores {
             writeln!(out, "lend {s} {} {}\nopen {s} {n}", s as u64 * (if n == LIMIT { 270_000 } else { 20_000 }), length(n))?;
