@@ -1,5 +1,5 @@
 -- What each arm of the code makes, and one turn of the loop over the codes.
-use mathlib.Core.List.{List}
+use mathlib.Core.List.{List, [], _∷_}
 use mathlib.Core.Logic.{_≢_, _⊎_, ⊎-elim}
 use mathlib.Core.Path.{_≡_, refl, sym, ap, ap₂, _∙_}
 use Prim.Native.Nat.{ℕ, zero, suc, _+_, _%_, _≤_, _<_}
@@ -110,3 +110,19 @@ module _ {k cut : ℕ} {ws cs v : List ℕ} {d b j : ℕ} (g : Going k cut ws cs
   pub all-done : length cs ≤ j → b ≡ evaluated k cut ws cs begun
   unfolding evaluated
   all-done h = sym (ap (λ (l : List ℕ). evaluated k cut ws l (record { words = v; place = d; last = b })) (drop-of-length-le cs h)) ∙ g .same
+
+-- ---- two stores and a third code
+
+three : (cs : List ℕ) → length cs ≡ 3 → cs ≡ getD cs 0 0 ∷ getD cs 1 0 ∷ getD cs 2 0 ∷ []
+three [] h = absurd (omega arith)
+three (a ∷ []) h = absurd (omega arith)
+three (a ∷ b ∷ []) h = absurd (omega arith)
+three (a ∷ b ∷ c ∷ []) h = refl
+three (a ∷ b ∷ c ∷ d ∷ cs) h = absurd (omega arith)
+
+pub pair-is : (k cut : ℕ) (ws cs : List ℕ) {r : ℕ} → length cs ≡ 3 → getD cs 0 0 < 4 → getD cs 1 0 < 4
+    → r ≡ made (kindOf (getD cs 2 0)) (getD ws (getD cs 2 0) 0) k cut (getD ws (getD cs 0 0) 0) (getD ws (getD cs 1 0) 0)
+    → r ≡ evaluated k cut ws cs begun
+unfolding evaluated stepped made moves
+pair-is k cut ws cs l a b e =
+    e ∙ sym (ap (λ (x : List ℕ). evaluated k cut ws x begun) (three cs l) ∙ rw (kind-store (getD cs 0 0) a, kind-store (getD cs 1 0) b))

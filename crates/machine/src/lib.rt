@@ -108,6 +108,24 @@ fn evaluate(codes: &[u8], k: usize, cut: u64, words: &[u64; 4]) -> u64
     last
 }
 
+// The value of the codes. Two stores and a third code, the commonest formula, need no stack.
+fn value(codes: &[u8], k: usize, cut: u64, words: &[u64; 4]) -> u64
+    ensures { λ r. ⌜ r ≡ evaluated k cut (now (words .entry)) (now (codes .entry)) begun ⌝ }
+{
+    if codes.len() == 3 {
+        let a = codes[0];
+        let b = codes[1];
+        if a < 4 {
+            if b < 4 {
+                let i = a as usize;
+                let j = b as usize;
+                return made(codes[2], k, cut, words, words[i], words[j]);
+            }
+        }
+    }
+    evaluate(codes, k, cut, words)
+}
+
 // Word i of a layer of a formula over four slices, those that are stores being of capacity n; the layer's number counts modulo 4.
 pub fn word(
     codes: &[u8],
@@ -130,5 +148,5 @@ pub fn word(
         store::get(s2, at),
         store::get(s3, at),
     ];
-    evaluate(codes, k, cut, &words)
+    value(codes, k, cut, &words)
 }

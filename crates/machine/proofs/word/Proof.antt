@@ -26,8 +26,8 @@ get-requires-3 c κs = search needs
 get-requires-4 : tie.Need-get-requires-4
 get-requires-4 c κs = search needs
 
-evaluate-requires : tie.Need-evaluate-requires
-evaluate-requires c κs = search needs
+value-requires : tie.Need-value-requires
+value-requires c κs = search needs
 
 returns : tie.Need-returns
 returns c =
@@ -41,7 +41,7 @@ returns c =
     let a = at .before .before .before .before .before .before .args in
     word-is (a .s0 .now) (a .s1 .now) (a .s2 .now) (a .s3 .now) (a .codes .now) (a .n) (a .layer) (a .i)
     (at .place .ensures) (p .places .ensures) (x .existing .ensures)
-    (g0 .get .ensures) (g1 .get2 .ensures) (g2 .get3 .ensures) (g3 .get4 .ensures) (c .evaluate .ensures)
+    (g0 .get .ensures) (g1 .get2 .ensures) (g2 .get3 .ensures) (g3 .get4 .ensures) (c .value .ensures)
 
 pub word-spec : {M : Type 1} → statement M
 word-spec =
@@ -54,5 +54,5 @@ word-spec =
     get-requires-2
     get-requires-3
     get-requires-4
-    evaluate-requires
+    value-requires
     returns)
