@@ -6,6 +6,8 @@ mod answers;
 mod merge_scripts;
 mod map_scripts;
 mod maps;
+mod formula_scripts;
+mod formulas;
 mod model;
 mod scripts;
 mod store_scripts;
@@ -35,13 +37,15 @@ fn main() -> io::Result<()> {
         ["script", "merge"] => merge_scripts::merge(&mut out)?,
         ["script", "map"] => map_scripts::map(&mut out)?,
         ["script", "damage"] => map_scripts::damage(&mut out)?,
+        ["script", "formula"] => formula_scripts::formula_script(&mut out)?,
+        ["script", "damaged"] => formula_scripts::damaged_script(&mut out)?,
         ["answer"] => {
             let mut script = Vec::new();
             io::stdin().lock().read_to_end(&mut script)?;
             answers::all(&script, &mut out)?;
         }
         _ => {
-            eprintln!("usage: oracle script average | row | bad | small | history | top | unsound | refusal | walk | cursor | fill | superset | merge | map | damage; oracle answer <SCRIPT");
+            eprintln!("usage: oracle script average | row | bad | small | history | top | unsound | refusal | walk | cursor | fill | superset | merge | map | damage | formula | damaged; oracle answer <SCRIPT");
             std::process::exit(2);
         }
     }

@@ -3,6 +3,7 @@
 //! Every slot that is a store has a set of the crate while it is used: every answer and every word comes from that set, also where
 //! words were poked to what no set has. The crate hands out its words to be read only, so they are written at their addresses.
 use crate::maps;
+use crate::formulas::{self, Any};
 use crate::model;
 use crate::walks::{self, Answer, Cursor, Step};
 use hibitset::{BitSet, BitSetLike};
@@ -138,6 +139,15 @@ impl Stores {
 
     /// The numbers of the answer, or nothing where there is no such command.
     pub fn answer(&mut self, word: &str, numbers: &[u64]) -> Option<Vec<u64>> {
+        match (word, numbers) {
+            ("fempty", &[f, a, b, c, d]) => return self.formula(f, [a, b, c, d], 0, |set, _| set.is_empty().into()),
+            ("fcontain", &[f, a, b, c, d, i]) => {
+                let i = id(i)?;
+                return self.formula(f, [a, b, c, d], 0, |set, n| (u64::from(i) < n && set.contains(i)).into());
+            }
+            ("fword", &[f, a, b, c, d, k, i]) => return self.formula(f, [a, b, c, d], k, |set, _| set.get_from_layer(k as usize, i as usize) as u64),
+            _ => {}
+        }
         let s = *numbers.first()? as usize;
         if s >= SLOTS {
             return None;
@@ -473,5 +483,49 @@ impl Stores {
             Ok(0)
         });
         paper(answer)
+    }
+
+    /// What is asked of a formula, and of a layer of it; a number past the last slot names an empty one. Nothing where there are too many codes.
+    fn formula(&mut self, f: u64, slots: [u64; 4], layer: u64, ask: impl Fn(&Any, u64) -> u64) -> Option<Vec<u64>> {
+        let codes: Vec<u64> = if f < SLOTS as u64 { self.words(f as usize).iter().map(|w| w % 256).collect() } else { Vec::new() };
+        if codes.len() > 40 {
+            return None;
+        }
+        paper(self.virtual_set(&codes, slots, layer, ask))
+    }
+
+    /// Refusals 2 (stores in number order), 5, then 4 and 6; else the answer of the crate's virtual set.
+    fn virtual_set(&mut self, codes: &[u64], slots: [u64; 4], layer: u64, ask: impl Fn(&Any, u64) -> u64) -> Result<u64, u64> {
+        let lent = slots.map(|s| s < SLOTS as u64 && self.slots[s as usize].len > 0);
+        if !lent[0] {
+            return Err(2);
+        }
+        let mut capacities = Vec::new();
+        for s in (0..4).filter(|&s| lent[s]).map(|s| slots[s] as usize) {
+            capacities.push(self.store(s)?.n);
+        }
+        let n = capacities[0];
+        if capacities.iter().any(|&m| m != n) {
+            return Err(5);
+        }
+        if layer > 3 {
+            return Err(4);
+        }
+        if !formulas::is_formula(codes, lent) {
+            return Err(6);
+        }
+        // Looking at the one may have put another's set back.
+        let mut made: Vec<Option<Set>> = Vec::new();
+        for s in 0..4 {
+            let missing = lent[s] && self.slots[slots[s] as usize].set.is_none();
+            made.push(if missing { Some(Set::of(n, &self.words(slots[s] as usize))) } else { None });
+        }
+        let set = |s: usize| match (&made[s], lent[s]) {
+            (Some(set), _) => Some(&set.bits),
+            (None, true) => self.slots[slots[s] as usize].set.as_ref().map(|set| &set.bits),
+            (None, false) => None,
+        };
+        let all = formulas::nested(codes, [set(0), set(1), set(2), set(3)], n);
+        Ok(ask(&all, n))
     }
 }

@@ -16,6 +16,7 @@ use Rattle.maps.specs.Calls.{changeOf as ofMaps}
 use Rattle.asks.specs.Calls.{askOf as ofSets}
 use Rattle.looks.specs.Calls.{askOf as ofWords}
 use Rattle.readers.specs.Calls.{askOf as ofReaders}
+use Rattle.formulas.specs.Calls.{askOf as ofFormulas}
 use Rattle.bits.specs.Calls.{askOf as ofBits}
 
 -- an answer, or what comes next where it is none
@@ -39,7 +40,9 @@ walkOf = then ofWalks (then ofFills ofMerges)
 
 -- those that only read it
 unfoldable pub askOf : List ℕ → ℕ → ℕ → Said
-askOf desk w count = orElse (ofSets desk w count) (orElse (ofWords desk w count) (orElse (ofReaders desk w count) (ofBits desk w count)))
+askOf desk w count =
+    orElse (ofSets desk w count)
+    (orElse (ofWords desk w count) (orElse (ofReaders desk w count) (orElse (ofFormulas desk w count) (ofBits desk w count))))
 
 abbrev pub asked : List ℕ → ℕ → ℕ → Left
 asked desk w count = left (askOf desk w count) desk

@@ -51,6 +51,10 @@ fn ask(desk: &[u64], word: u64, count: usize) -> Said
     if c.count < 4 {
         return c;
     }
+    let d = formulas::ask(desk, word, count);
+    if d.count < 4 {
+        return d;
+    }
     bits::ask(desk, word, count)
 }
 

@@ -1,6 +1,6 @@
 -- Where a clear summary bit stands over a word that is 0, the ids below the top word are those whose layer-0 bit is set, ascending: on a
 -- sound store its members. By induction on the layer number.
-use mathlib.Core.List.{List, [], _∷_, _++_}
+use mathlib.Core.List.{List, [], _∷_, _++_, append-nil}
 use mathlib.Core.Path.{_≡_, refl, sym, ap, ap₂, _∙_, fun-ext}
 use Prim.Native.Nat.{ℕ, zero, suc, _+_, _-_, _*_, _/_, _%_, _^_, _≤_, _<_}
 use native.Mathlib.Nat.{pow-suc, mul-comm, mul-assoc, add-mul, suc-mul, add-assoc, add-comm, zero-mul, add-zero}
@@ -56,7 +56,7 @@ module _ (lw : ℕ → ℕ → ℕ) where
       let m : (p * 64 + i) % 64 ≡ i = omega arith in
       ap₂ (λ (x y : ℕ). bit (lw k x) y) d m
 
-  under-empty : (k q : ℕ) → lw k q ≡ 0 → under lw (suc k) q ≡ []
+  pub under-empty : (k q : ℕ) → lw k q ≡ 0 → under lw (suc k) q ≡ []
   unfolding under joined
   under-empty k q e = ap (λ (x : ℕ). joined (λ b. under lw k (q * 64 + b)) (bits x)) e ∙ ap (joined (λ b. under lw k (q * 64 + b))) bits-zero
 
@@ -81,3 +81,14 @@ module _ (lw : ℕ → ℕ → ℕ) where
   -- THE IDS of a walk
   pub ids-are : (t : ℕ) → Clear lw t → allIds lw t ≡ places (onAt lw 0) 0 (64 ^ suc t)
   ids-are t clear = under-places t clear t (omega arith) 0 ∙ ap (λ (x : ℕ). places (onAt lw 0) x (64 ^ suc t)) (zero-mul (64 ^ suc t))
+
+  -- where no bit of layer 0 is on at or past N, those below N
+  pub ids-below : (t N : ℕ) → Clear lw t → N ≤ 64 ^ suc t → ((i : ℕ) → N ≤ i → onAt lw 0 i ≡ 0) → allIds lw t ≡ places (onAt lw 0) 0 N
+  ids-below t N clear most past =
+      let n = 64 ^ suc t - N in
+      let e : 64 ^ suc t ≡ N + n = omega arith in
+      ids-are t clear
+      ∙ ap (places (onAt lw 0) 0) e
+      ∙ places-append (onAt lw 0) 0 N n
+      ∙ ap (λ (x : List ℕ). places (onAt lw 0) 0 N ++ x) (places-none (onAt lw 0) (0 + N) n (λ i l u. past i (omega arith)))
+      ∙ append-nil (places (onAt lw 0) 0 N)

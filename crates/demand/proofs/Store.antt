@@ -1,14 +1,13 @@
 -- Walks of one store, by the public definitions: started, and then a call of next for each budget of a list.
 use mathlib.Core.Bool.{true}
-use mathlib.Core.List.{List, [], _∷_, _++_, List·Memᴰ, append-nil}
+use mathlib.Core.List.{List, [], _∷_, List·Memᴰ}
 use mathlib.Core.Logic.{_↔_, _≢_}
 use mathlib.Core.Path.{_≡_, refl, sym, ap, ap₂, _∙_, subst}
-use Prim.Native.Nat.{ℕ, _+_, _-_, _≤_}
+use Prim.Native.Nat.{ℕ, _+_, _≤_}
 use native.Mathlib.Decide.{ℕ-discrete}
 use native.Mathlib.Omega.{arith}
 use lib.ListN.{length}
 use Rattle.util.specs.Word.{places, Rising}
-use Rattle.util.proofs.Places.{places-append, places-none}
 use Rattle.store.specs.Layout.{top, maxCap, room, cap, isStore}
 use Rattle.store.specs.Word.{word, on, Member, members, Sound, Words64}
 use Rattle.store.proofs.Geometry.{store-is}
@@ -28,13 +27,13 @@ use Rattle.demand.proofs.Rest.{moved-next}
 use Rattle.demand.specs.Walks.{onAt, Clear, Full, Some, Kept, AllKept, spacedBy, Spaced, nextOn, walkOn}
 use Rattle.demand.proofs.Ends.{next-kept, walk-ends, walk-all}
 use Rattle.demand.proofs.Gaps.{spaced}
-use Rattle.demand.proofs.Members.{ids-are}
+use Rattle.demand.proofs.Members.{ids-below}
 use Rattle.demand.proofs.Prefixes.{next-fine}
 
 -- ---- what soundness says of the layer words
 
 module _ (N : ℕ) (s : List ℕ) (z : Sound N s) where
-  sound-clear : Clear (word N s) (top N)
+  pub sound-clear : Clear (word N s) (top N)
   unfolding onAt on
   sound-clear k p h e = go (ℕ-discrete (word N s k p) 0)
     where
@@ -42,28 +41,22 @@ module _ (N : ℕ) (s : List ℕ) (z : Sound N s) where
       go (yes q) = q
       go (no q) = absurd (omega (arith, e, z .exact k p h .1 q))
 
-  sound-full : Full (word N s) (top N)
+  pub sound-full : Full (word N s) (top N)
   unfolding onAt on
   sound-full k p h e = let n : word N s k p ≢ 0 = z .exact k p h .0 e in omega (arith, n)
 
   -- no bit is set at or past N
-  sound-ids : N ≤ maxCap → allIds (word N s) (top N) ≡ places (on N s 0) 0 N
-  unfolding onAt on room top
-  sound-ids most =
-      let e : 16777216 ≡ N + (16777216 - N) = omega arith in
-      ids-are (word N s) 3 sound-clear
-      ∙ ap (places (onAt (word N s) 0) 0) e
-      ∙ places-append (onAt (word N s) 0) 0 N (16777216 - N)
-      ∙ ap (λ (x : List ℕ). places (onAt (word N s) 0) 0 N ++ x)
-      (places-none (onAt (word N s) 0) (0 + N) (16777216 - N) (λ i l u. off i (omega arith)))
-      ∙ append-nil (places (onAt (word N s) 0) 0 N)
+  pub sound-past : (i : ℕ) → N ≤ i → onAt (word N s) 0 i ≡ 0
+  unfolding onAt on room
+  sound-past i h = go (ℕ-discrete (on N s 0 i) 1)
     where
-      off : (i : ℕ) → N ≤ i → onAt (word N s) 0 i ≡ 0
-      off i h = go (ℕ-discrete (on N s 0 i) 1)
-        where
-          go : Dec (on N s 0 i ≡ 1) → on N s 0 i ≡ 0
-          go (yes q) = absurd (omega (arith, z .inside 0 i (omega arith) q))
-          go (no q) = omega (arith, on-lt N s 0 i, q)
+      go : Dec (on N s 0 i ≡ 1) → on N s 0 i ≡ 0
+      go (yes q) = absurd (omega (arith, z .inside 0 i (omega arith) q))
+      go (no q) = omega (arith, on-lt N s 0 i, q)
+
+  sound-ids : N ≤ maxCap → allIds (word N s) (top N) ≡ places (on N s 0) 0 N
+  unfolding onAt on top
+  sound-ids most = ids-below (word N s) (top N) N sound-clear most sound-past
 
 -- ---- the calls on a store are the walk over its layer words, and none refuses
 

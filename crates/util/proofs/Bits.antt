@@ -75,7 +75,7 @@ pub bit-xor : (x y b : ℕ) → bit (bitXor x y) b ≡ differ (bit x b) (bit y b
 bit-xor = bitwise bitXor differ xor-step xor-shr differ-lt
 
 -- the complement of n bits
-bit-flip-in : (n w b : ℕ) → w < 2 ^ n → b < n → bit ((2 ^ n - 1) - w) b ≡ 1 - bit w b
+pub bit-flip-in : (n w b : ℕ) → w < 2 ^ n → b < n → bit ((2 ^ n - 1) - w) b ≡ 1 - bit w b
 bit-flip-in zero w b h g = absurd (omega arith)
 bit-flip-in (suc n) w zero h g = bit-zero ((2 ^ suc n - 1) - w) ∙ omega (arith, bit-zero w)
 bit-flip-in (suc n) w (suc b) h g =

@@ -18,9 +18,11 @@ ask-requires-2 c κs = search needs
 returns-2 : tie.Need-returns-2
 unfolding askOf
 returns-2 c =
-    let b = c .before .before in
-    let t = b .before in
-    else-next _ _ (t .before .before .ask .ensures) (t .if1 .left) (else-known _ _ (b .ask2 .ensures) (c .if2 .taken))
+    let a2 = c .before .before in
+    let e1 = a2 .before in
+    let a1 = e1 .before .before in
+    else-next _ _ (a1 .ask .ensures) (e1 .if1 .left)
+    (else-known _ _ (a2 .ask2 .ensures) (c .if2 .taken))
 
 ask-requires-3 : tie.Need-ask-requires-3
 ask-requires-3 c κs = search needs
@@ -28,11 +30,14 @@ ask-requires-3 c κs = search needs
 returns-3 : tie.Need-returns-3
 unfolding askOf
 returns-3 c =
-    let d = c .before .before in
-    let u = d .before in
-    let b = u .before .before in
-    let t = b .before in
-    else-next _ _ (t .before .before .ask .ensures) (t .if1 .left) (else-next _ _ (b .ask2 .ensures) (u .if2 .left) (else-known _ _ (d .ask3 .ensures) (c .if3 .taken)))
+    let a3 = c .before .before in
+    let e2 = a3 .before in
+    let a2 = e2 .before .before in
+    let e1 = a2 .before in
+    let a1 = e1 .before .before in
+    else-next _ _ (a1 .ask .ensures) (e1 .if1 .left)
+    (else-next _ _ (a2 .ask2 .ensures) (e2 .if2 .left)
+    (else-known _ _ (a3 .ask3 .ensures) (c .if3 .taken)))
 
 ask-requires-4 : tie.Need-ask-requires-4
 ask-requires-4 c κs = search needs
@@ -40,13 +45,37 @@ ask-requires-4 c κs = search needs
 returns-4 : tie.Need-returns-4
 unfolding askOf
 returns-4 c =
-    let v = c .before in
-    let d = v .before .before in
-    let u = d .before in
-    let b = u .before .before in
-    let t = b .before in
-    else-next _ _ (t .before .before .ask .ensures) (t .if1 .left)
-    (else-next _ _ (b .ask2 .ensures) (u .if2 .left) (else-next _ _ (d .ask3 .ensures) (v .if3 .left) (c .ask4 .ensures)))
+    let a4 = c .before .before in
+    let e3 = a4 .before in
+    let a3 = e3 .before .before in
+    let e2 = a3 .before in
+    let a2 = e2 .before .before in
+    let e1 = a2 .before in
+    let a1 = e1 .before .before in
+    else-next _ _ (a1 .ask .ensures) (e1 .if1 .left)
+    (else-next _ _ (a2 .ask2 .ensures) (e2 .if2 .left)
+    (else-next _ _ (a3 .ask3 .ensures) (e3 .if3 .left)
+    (else-known _ _ (a4 .ask4 .ensures) (c .if4 .taken))))
+
+ask-requires-5 : tie.Need-ask-requires-5
+ask-requires-5 c κs = search needs
+
+returns-5 : tie.Need-returns-5
+unfolding askOf
+returns-5 c =
+    let e4 = c .before in
+    let a4 = e4 .before .before in
+    let e3 = a4 .before in
+    let a3 = e3 .before .before in
+    let e2 = a3 .before in
+    let a2 = e2 .before .before in
+    let e1 = a2 .before in
+    let a1 = e1 .before .before in
+    else-next _ _ (a1 .ask .ensures) (e1 .if1 .left)
+    (else-next _ _ (a2 .ask2 .ensures) (e2 .if2 .left)
+    (else-next _ _ (a3 .ask3 .ensures) (e3 .if3 .left)
+    (else-next _ _ (a4 .ask4 .ensures) (e4 .if4 .left)
+    (c .ask5 .ensures))))
 
 pub ask-spec : {M : Type 1} → statement M
 ask-spec =
@@ -59,4 +88,6 @@ ask-spec =
     ask-requires-3
     returns-3
     ask-requires-4
-    returns-4)
+    returns-4
+    ask-requires-5
+    returns-5)

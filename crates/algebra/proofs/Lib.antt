@@ -1,0 +1,6 @@
+pub mod Cuts
+pub mod Trees
+pub mod Sets
+pub mod Shapes
+pub mod Answers
+pub mod Walks

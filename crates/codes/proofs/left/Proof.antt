@@ -1,0 +1,66 @@
+-- `codes::left` meets its contract: each turn is one code of the definition. Assumes nothing.
+use Prim.Native.Nat.{_-_}
+use native.Mathlib.Omega.{arith}
+use borrow.Author.Needs.{needs}
+use lib.ListN.{length}
+use Rattle.codes.proofs.Turns.{going-start, too-few, too-many, goes-on, all-done}
+use Rattle.codes.specs.Steps.{Going}
+use Rattle.codes.proofs.left.Statement.{statement}
+use Rattle.codes.proofs.left.Tie as tie
+
+abbrev Inv-loop : tie.InvT-loop
+Inv-loop codes lens d₀ j₀ d j = Going lens codes d j
+
+abbrev μ-loop : tie.MeasureT-loop
+μ-loop codes lens d₀ j₀ d j = length codes - j
+
+loop-holds : tie.Need-loop-holds Inv-loop μ-loop
+loop-holds c = going-start _ _
+
+shared-slice-read-takes : tie.Need-shared-slice-read-takes Inv-loop μ-loop
+shared-slice-read-takes c = search needs
+
+takes-requires : tie.Need-takes-requires Inv-loop μ-loop
+takes-requires c κs = search needs
+
+returns : tie.Need-returns Inv-loop μ-loop
+returns c = let t = c .before in too-few (t .before .before .before .loop .inv) (t .before .before .loop-test .taken) (t .takes .ensures) (c .if1 .taken)
+
+returns-2 : tie.Need-returns-2 Inv-loop μ-loop
+returns-2 c =
+    let t = c .before .before in
+    too-many (t .before .before .before .loop .inv) (t .before .before .loop-test .taken) (t .takes .ensures) (c .before .if1 .left) (c .if2 .taken)
+
+add-d : tie.Need-add-d Inv-loop μ-loop
+add-d c = search needs
+
+add-j : tie.Need-add-j Inv-loop μ-loop
+add-j c = search needs
+
+loop-less : tie.Need-loop-less Inv-loop μ-loop
+loop-less c = omega (arith, c .before .before .before .before .loop-test .taken)
+
+loop-again : tie.Need-loop-again Inv-loop μ-loop
+loop-again c =
+    let t = c .before .before in
+    goes-on (t .before .before .before .loop .inv) (t .before .before .loop-test .taken) (t .takes .ensures) (c .before .if1 .left) (c .if2 .left)
+
+returns-3 : tie.Need-returns-3 Inv-loop μ-loop
+returns-3 c = all-done (c .before .loop .inv) (c .loop-test .left)
+
+pub left-spec : {M : Type 1} → statement M
+left-spec =
+    tie.close
+    (tie.spec
+    Inv-loop
+    μ-loop
+    loop-holds
+    shared-slice-read-takes
+    takes-requires
+    returns
+    returns-2
+    add-d
+    add-j
+    loop-less
+    loop-again
+    returns-3)

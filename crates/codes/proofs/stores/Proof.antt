@@ -1,0 +1,56 @@
+-- `codes::stores` meets its contract. Assumes nothing.
+use borrow.Author.Needs.{needs}
+use denote.Ref.{now}
+use Rattle.store.proofs.Ends.{some-store, no-store}
+use Rattle.codes.proofs.Answers.{stores-2, stores-first}
+use Rattle.codes.proofs.stores.Statement.{statement}
+use Rattle.codes.proofs.stores.Tie as tie
+
+capacity-requires : tie.Need-capacity-requires
+capacity-requires c κs = search needs
+
+returns : tie.Need-returns
+returns c =
+    let y = c .before in
+    let a = y .before .before .before .before .before .args in
+    stores-2 (a .s0 .now) (a .s1 .now) (a .s2 .now) (a .s3 .now) (no-store (a .s0 .now) (y .capacity .ensures) (c .if1 .taken))
+
+beside-requires : tie.Need-beside-requires
+beside-requires c κs = search needs
+
+beside-requires-2 : tie.Need-beside-requires-2
+beside-requires-2 c κs = search needs
+
+sooner-requires : tie.Need-sooner-requires
+sooner-requires c κs = search needs
+
+beside-requires-3 : tie.Need-beside-requires-3
+beside-requires-3 c κs = search needs
+
+sooner-requires-2 : tie.Need-sooner-requires-2
+sooner-requires-2 c κs = search needs
+
+returns-2 : tie.Need-returns-2
+returns-2 c =
+    let x3 = c .before in
+    let o = x3 .before in
+    let x2 = o .before in
+    let x1 = x2 .before in
+    let e = x1 .before in
+    let y = e .before in
+    let a = y .before .before .before .before .before .args in
+    stores-first (a .s0 .now) (a .s1 .now) (a .s2 .now) (a .s3 .now) (some-store (a .s0 .now) (y .capacity .ensures) (e .if1 .left))
+    (x1 .beside .ensures) (x2 .beside2 .ensures) (x3 .beside3 .ensures) (o .sooner .ensures) (c .sooner2 .ensures)
+
+pub stores-spec : {M : Type 1} → statement M
+stores-spec =
+    tie.close
+    (tie.spec
+    capacity-requires
+    returns
+    beside-requires
+    beside-requires-2
+    sooner-requires
+    beside-requires-3
+    sooner-requires-2
+    returns-2)

@@ -1,0 +1,4 @@
+pub mod Tree
+pub mod Codes
+pub mod Check
+pub mod Steps

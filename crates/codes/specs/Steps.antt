@@ -1,0 +1,11 @@
+-- What the loop of the check keeps.
+use mathlib.Core.List.{List}
+use mathlib.Core.Path.{_≡_}
+use Prim.Native.Nat.{ℕ, _≤_}
+use lib.ListN.{drop}
+use Rattle.codes.specs.Codes.{left}
+
+-- after j codes d values wait, and what waits after the others is what waits after all
+pub record Going (ls cs : List ℕ) (d j : ℕ) : Type 0 where
+  pub few : d ≤ 8
+  pub same : left ls (drop j cs) d ≡ left ls cs 0

@@ -1,0 +1,113 @@
+// The codes of a formula over at most four stores: which lists of codes are one, and what is refused.
+ghost use mathlib.Core.Path.{_≡_};
+ghost use Rattle.codes.specs.Tree.{four};
+ghost use Rattle.codes.specs.Codes.{takesIn, left, isFormula};
+ghost use Rattle.codes.specs.Check.{besideOf, sooner, storesOf, checkOf};
+
+// Of two refusals the one that comes first; 0 is none.
+fn sooner(a: u32, b: u32) -> u32
+    ensures { λ r. ⌜ r ≡ sooner a b ⌝ }
+{
+    if a == 0 {
+        return b;
+    }
+    if b == 0 {
+        return a;
+    }
+    if a < b { a } else { b }
+}
+
+// What a slice beside a store of capacity n is refused for: 0, 2 or 5.
+fn beside(n: usize, s: &[u64]) -> u32
+    ensures { λ r. ⌜ r ≡ besideOf n (now (s .entry)) ⌝ }
+{
+    if s.len() == 0 {
+        return 0;
+    }
+    let m = store::capacity(s);
+    if m == 0 {
+        return 2;
+    }
+    if m == n { 0 } else { 5 }
+}
+
+// What the four slices are refused for: 0, 2 or 5.
+fn stores(s0: &[u64], s1: &[u64], s2: &[u64], s3: &[u64]) -> u32
+    ensures { λ r. ⌜ r ≡ storesOf (four (now (s0 .entry)) (now (s1 .entry)) (now (s2 .entry)) (now (s3 .entry))) ⌝ }
+{
+    let n = store::capacity(s0);
+    if n == 0 {
+        return 2;
+    }
+    sooner(sooner(beside(n, s1), beside(n, s2)), beside(n, s3))
+}
+
+// The values that a code takes before it puts one, where the four slices have these lengths; 9 for a code that may not stand there.
+fn takes(code: u8, lens: &[usize; 4]) -> usize
+    ensures { λ r. ⌜ r ≡ takesIn (now (lens .entry)) code ⌝ }
+{
+    match code {
+        0..=3 => {
+            let i = code as usize;
+            if lens[i] == 0 {
+                return 9;
+            }
+            0
+        }
+        16..=18 => 2,
+        19 => 1,
+        20 => 0,
+        _ => 9,
+    }
+}
+
+// How many values wait after all codes; 0 where a code finds too few, or would make more than eight wait.
+fn left(codes: &[u8], lens: &[usize; 4]) -> usize
+    ensures { λ r. ⌜ r ≡ left (now (lens .entry)) (now (codes .entry)) 0 ⌝ }
+{
+    let mut d = 0usize;
+    let mut j = 0usize;
+    while j < codes.len() {
+        let t = takes(codes[j], lens);
+        if d < t {
+            return 0;
+        }
+        d -= t;
+        if 8 <= d {
+            return 0;
+        }
+        d += 1;
+        j += 1;
+    }
+    d
+}
+
+// Whether the codes are a formula over the four slices.
+fn is_formula(codes: &[u8], s0: &[u64], s1: &[u64], s2: &[u64], s3: &[u64]) -> bool
+    ensures { λ r. ⌜ r ≡ isFormula (four (now (s0 .entry)) (now (s1 .entry)) (now (s2 .entry)) (now (s3 .entry))) (now (codes .entry)) ⌝ }
+{
+    let n = codes.len();
+    if n == 0 {
+        return false;
+    }
+    if 32 < n {
+        return false;
+    }
+    let lens = [s0.len(), s1.len(), s2.len(), s3.len()];
+    left(codes, &lens) == 1
+}
+
+// The judge of every call over a formula: 0, or the number of the refusal among 2, 5 and 6.
+pub fn check(codes: &[u8], s0: &[u64], s1: &[u64], s2: &[u64], s3: &[u64]) -> u32
+    ensures { λ r. ⌜ r ≡ checkOf (four (now (s0 .entry)) (now (s1 .entry)) (now (s2 .entry)) (now (s3 .entry))) (now (codes .entry)) ⌝ }
+{
+    let no = stores(s0, s1, s2, s3);
+    if no != 0 {
+        return no;
+    }
+    if is_formula(codes, s0, s1, s2, s3) {
+        0
+    } else {
+        6
+    }
+}

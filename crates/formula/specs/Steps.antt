@@ -1,0 +1,8 @@
+-- What a private step answers.
+use mathlib.Core.Bool.{cond}
+use Prim.Native.Nat.{ℕ}
+use lib.Dec.{leb, eqb}
+
+-- the refusal of a layer word, where the formula's is n, or 0: 4 comes before 6, and 2 and 5 before 4
+unfoldable pub refusalAt : ℕ → ℕ → ℕ
+refusalAt n k = cond (leb k 3) n (cond (eqb n 0) 4 (cond (eqb n 6) 4 n))

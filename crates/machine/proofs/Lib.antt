@@ -1,0 +1,4 @@
+pub mod Spots
+pub mod Arms
+pub mod Held
+pub mod Words

@@ -1,0 +1,152 @@
+// The layer word of a formula, its codes one after another on a stack: the Rust's `BitSetAnd`, `BitSetOr`, `BitSetXor`, `BitSetNot` and
+// `BitSetAll` of ops.rs.
+ghost use mathlib.Core.Path.{_≡_};
+ghost use Prim.Native.Nat.{suc, _≤_, _<_};
+ghost use lib.ListN.{getD};
+ghost use Rattle.codes.specs.Tree.{existing, four};
+ghost use Rattle.codes.specs.Codes.{kindOf};
+ghost use Rattle.machine.specs.Machine.{wordsIn, placesIn, placeOf, made, moves, evaluated, begun, machineWord};
+
+// The words of layer k.
+fn words_in(n: usize, k: usize) -> usize
+    requires { ⌜ k < 4 ⌝ }
+    ensures { λ r. ⌜ r ≡ wordsIn n k ⌝ }
+{
+    store::end(n, k) - store::end(n, k + 1)
+}
+
+// Where word i of layer k stands in a store of capacity n; past the layer's end, where the store ends.
+fn place(n: usize, k: usize, i: usize) -> usize
+    requires { ⌜ k < 4 ⌝ }
+    ensures { λ r. ⌜ r ≡ placeOf n k i ⌝ }
+{
+    if i < words_in(n, k) {
+        store::end(n, k + 1) + i
+    } else {
+        store::end(n, 0)
+    }
+}
+
+// The places of layer k.
+fn places(n: usize, k: usize) -> usize
+    requires { ⌜ k < 4 ⌝ }
+    ensures { λ r. ⌜ r ≡ placesIn n k ⌝ }
+{
+    if k == 0 { n } else { words_in(n, k - 1) }
+}
+
+// The bits of word i that exist in a layer of so many places.
+fn existing(places: usize, i: usize) -> u64
+    ensures { λ r. ⌜ r ≡ existing places i ⌝ }
+{
+    let whole = places / 64;
+    if i < whole {
+        return 18446744073709551615;
+    }
+    if whole < i {
+        return 0;
+    }
+    (1u64 << (places % 64)) - 1
+}
+
+// What a code makes of the last two values in layer k, where the bits that exist are `cut` and the stores' words are `words`.
+fn made(code: u8, k: usize, cut: u64, words: &[u64; 4], a: u64, b: u64) -> u64
+    ensures { λ r. ⌜ r ≡ made (kindOf code) (getD (now (words .entry)) code 0) k cut a b ⌝ }
+{
+    match code {
+        0..=3 => {
+            let i = code as usize;
+            words[i]
+        }
+        16 => a & b,
+        17 => a | b,
+        18 => {
+            if k == 0 {
+                return a ^ b;
+            }
+            a | b
+        }
+        19 => {
+            if k == 0 {
+                return cut & !b;
+            }
+            cut
+        }
+        20 => cut,
+        _ => b,
+    }
+}
+
+// How far a code moves the place of the last value, in a ring of eight.
+fn moves(code: u8) -> usize
+    ensures { λ r. ⌜ (r ≡ moves (kindOf code)) × (r ≤ 7) ⌝ }
+{
+    match code {
+        0..=3 => 1,
+        16..=18 => 7,
+        20 => 1,
+        _ => 0,
+    }
+}
+
+// The codes one after another: the last value stands in `last`, those before it in the stack.
+fn evaluate(codes: &[u8], k: usize, cut: u64, words: &[u64; 4]) -> u64
+    ensures { λ r. ⌜ r ≡ evaluated k cut (now (words .entry)) (now (codes .entry)) begun ⌝ }
+{
+    let mut stack = [0u64; 8];
+    let mut d = 0usize;
+    let mut last = 0u64;
+    let mut j = 0usize;
+    while j < codes.len() {
+        let code = codes[j];
+        stack[d] = last;
+        let e = (d + 7) % 8;
+        last = made(code, k, cut, words, stack[e], last);
+        d = (d + moves(code)) % 8;
+        j += 1;
+    }
+    last
+}
+
+// The value of the codes. Two stores and a third code, the commonest formula, need no stack.
+fn value(codes: &[u8], k: usize, cut: u64, words: &[u64; 4]) -> u64
+    ensures { λ r. ⌜ r ≡ evaluated k cut (now (words .entry)) (now (codes .entry)) begun ⌝ }
+{
+    if codes.len() == 3 {
+        let a = codes[0];
+        let b = codes[1];
+        if a < 4 {
+            if b < 4 {
+                let i = a as usize;
+                let j = b as usize;
+                return made(codes[2], k, cut, words, words[i], words[j]);
+            }
+        }
+    }
+    evaluate(codes, k, cut, words)
+}
+
+// Word i of a layer of a formula over four slices, those that are stores being of capacity n; the layer's number counts modulo 4.
+pub fn word(
+    codes: &[u8],
+    n: usize,
+    layer: usize,
+    i: usize,
+    s0: &[u64],
+    s1: &[u64],
+    s2: &[u64],
+    s3: &[u64],
+) -> u64
+    ensures { λ r. ⌜ r ≡ machineWord n (four (now (s0 .entry)) (now (s1 .entry)) (now (s2 .entry)) (now (s3 .entry))) (now (codes .entry)) layer i ⌝ }
+{
+    let k = layer % 4;
+    let at = place(n, k, i);
+    let cut = existing(places(n, k), i);
+    let words = [
+        store::get(s0, at),
+        store::get(s1, at),
+        store::get(s2, at),
+        store::get(s3, at),
+    ];
+    value(codes, k, cut, &words)
+}
