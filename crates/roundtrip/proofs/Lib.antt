@@ -3,3 +3,4 @@ pub mod Accepted
 pub mod Stores
 pub mod Counts
 pub mod Theorems
+pub mod Samples

@@ -31,17 +31,17 @@ shl-result c = search needs
 rem-result : tie.Need-rem-result
 rem-result c =
     let a = c .before .before .args in
-    rw (shl-one (a .n - 64 * (length (a .layer .now) - 1)) (c .if1 .taken)) (pow-pos (a .n - 64 * (length (a .layer .now) - 1)))
+    rw (shl-one (a .n - 64 * (length (a .layer .now) - 1)) (omega (arith, c .if1 .taken))) (pow-pos (a .n - 64 * (length (a .layer .now) - 1)))
 
 returns : tie.Need-returns
 returns c =
     let a = c .before .before .args in
-    cut-low (a .n) (length (a .layer .now) - 1) (a .n - 64 * (length (a .layer .now) - 1)) (getD (a .layer .now) (length (a .layer .now) - 1) 0) refl (c .if1 .taken)
+    cut-low (a .n) (length (a .layer .now) - 1) (a .n - 64 * (length (a .layer .now) - 1)) (getD (a .layer .now) (length (a .layer .now) - 1) 0) refl (omega (arith, c .if1 .taken))
 
 returns-2 : tie.Need-returns-2
 returns-2 c =
     let a = c .before .before .args in
-    cut-none (a .n) (length (a .layer .now) - 1) (a .n - 64 * (length (a .layer .now) - 1)) (getD (a .layer .now) (length (a .layer .now) - 1) 0) refl (c .if1 .left)
+    cut-none (a .n) (length (a .layer .now) - 1) (a .n - 64 * (length (a .layer .now) - 1)) (getD (a .layer .now) (length (a .layer .now) - 1) 0) refl (omega (arith, c .if1 .left))
     (omega (arith, c .before .shared-slice-known .given (length (a .layer .now) - 1)))
 
 pub last-word-spec : {M : Type 1} → statement M

@@ -47,7 +47,7 @@ known c = sym (answered (c .before)) ∙ not-false _ (c .if2 .left)
 returns-3 : tie.Need-returns-3
 returns-3 c =
     let g2 = c .before .before .before .before in
-    no-head (g2 .before .before .before .before .args .map .now) (λ z. c .if3 .taken (g2 .get2 .ensures ∙ z .offset))
+    no-head (g2 .before .before .before .before .args .map .now) (λ z. omega (arith, z .offset, g2 .get2 .ensures, c .if3 .taken))
 
 -- past the capacity test the numbers are small
 most : (c : tie.Else2) → c .before .before .before .before .get .result ≤ maxCap
@@ -79,7 +79,7 @@ returns-5 c =
     let g = g2 .before in
     let l = g .before in
     ap (λ (u : ℕ). leb (16 + 12 * u) (length (l .before .before .args .map .now))) (g3 .get3 .ensures)
-    ∙ head-last (l .before .before .args .map .now) (l .if1 .left) (known k) (sym (g2 .get2 .ensures) ∙ o .if3 .left)
+    ∙ head-last (l .before .before .args .map .now) (l .if1 .left) (known k) (omega (arith, g2 .get2 .ensures, o .if3 .left))
     (omega (arith, g .get .ensures, g3 .get3 .ensures, c .if4 .left))
 
 pub head-ok-spec : {M : Type 1} → statement M

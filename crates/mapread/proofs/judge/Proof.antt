@@ -26,7 +26,7 @@ head : (c : tie.Else1) → HeadIs (c .before .before .before .args .map .now)
 head c = head-is (known c)
 
 same : (c : tie.Else2) → let a = c .before .before .before .before .before .args in capIn (a .map .now) ≡ a .n
-same c = sym (c .before .get .ensures) ∙ c .if2 .left
+same c = omega (arith, c .before .get .ensures, c .if2 .left)
 
 get-requires : tie.Need-get-requires
 get-requires c κs = (omega (arith, head c .long), omega arith)
@@ -35,7 +35,7 @@ returns-2 : tie.Need-returns-2
 returns-2 c =
     let g = c .before in
     let a = g .before .before .before .before .args in
-    sym (judge-5 (a .map .now) (a .n) (known (g .before)) (λ e. c .if2 .taken (g .get .ensures ∙ e)))
+    sym (judge-5 (a .map .now) (a .n) (known (g .before)) (λ e. omega (arith, c .if2 .taken, g .get .ensures, e)))
 
 get-requires-2 : tie.Need-get-requires-2
 get-requires-2 c κs = (omega (arith, head (c .before .before) .long), omega arith)

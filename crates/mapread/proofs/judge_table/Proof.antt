@@ -99,14 +99,14 @@ returns-2 c =
     let l = c .before in
     let h = l .before .loop .inv in
     let a = l .before .before .before .args in
-    table-0 (a .n) (a .used) (a .members) (a .table .now) (judged-good h (l .loop-test .left)) (sym (judged-sum h (l .loop-test .left)) ∙ c .if2 .taken)
+    table-0 (a .n) (a .used) (a .members) (a .table .now) (judged-good h (l .loop-test .left)) (omega (arith, judged-sum h (l .loop-test .left), c .if2 .taken))
 
 returns-3 : tie.Need-returns-3 Inv-loop μ-loop
 returns-3 c =
     let l = c .before in
     let h = l .before .loop .inv in
     let a = l .before .before .before .args in
-    table-11 (a .n) (a .used) (a .members) (a .table .now) (judged-good h (l .loop-test .left)) (λ e. c .if2 .left (judged-sum h (l .loop-test .left) ∙ e))
+    table-11 (a .n) (a .used) (a .members) (a .table .now) (judged-good h (l .loop-test .left)) (λ e. omega (arith, c .if2 .left, judged-sum h (l .loop-test .left), e))
 
 pub judge-table-spec : {M : Type 1} → statement M
 judge-table-spec =

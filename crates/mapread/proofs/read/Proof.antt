@@ -1,5 +1,5 @@
 -- `mapread::read` meets its contract. Assumes nothing.
-use mathlib.Core.Path.{sym, _∙_}
+use native.Mathlib.Omega.{arith}
 use borrow.Author.Needs.{needs}
 use Rattle.store.specs.Layout.{StoreOf}
 use Rattle.store.proofs.Ends.{some-store, no-store}
@@ -33,13 +33,13 @@ returns-2 : tie.Need-returns-2
 returns-2 c =
     let j = c .before in
     let a = j .before .before .before .before .before .before .args in
-    read-no (a .map .now) (store-here (j .before)) (j .judge .result) (j .judge .ensures) (c .if2 .taken)
+    read-no (a .map .now) (store-here (j .before)) (j .judge .result) (j .judge .ensures) (λ e. omega (arith, c .if2 .taken, e))
 
 replace-requires : tie.Need-replace-requires
 replace-requires c κs =
     let e = c .before in
     let j = e .before in
-    record { store = store-here (j .before); accepted = sym (j .judge .ensures) ∙ e .if2 .left }
+    record { store = store-here (j .before); accepted = omega (arith, j .judge .ensures, e .if2 .left) }
 
 same-length-3 : tie.Need-same-length-3
 same-length-3 c = search needs
@@ -50,7 +50,7 @@ returns-3 c =
     let e = r .before .before in
     let j = e .before in
     let a = j .before .before .before .before .before .before .args in
-    read-done (a .map .now) (store-here (j .before)) (r .replace .last .1 .0) (sym (j .judge .ensures) ∙ e .if2 .left) (r .replace .ensures)
+    read-done (a .map .now) (store-here (j .before)) (r .replace .last .1 .0) (omega (arith, j .judge .ensures, e .if2 .left)) (r .replace .ensures)
 
 pub read-spec : {M : Type 1} → statement M
 read-spec =
