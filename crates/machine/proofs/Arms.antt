@@ -14,7 +14,7 @@ use Rattle.codes.specs.Tree.{xorIn, notIn}
 use Rattle.codes.specs.Codes.{kindOf}
 use Rattle.codes.proofs.Turns.{kind-store, kind-unknown}
 use Rattle.machine.specs.Machine.{Stack, made, moves, stepped, evaluated, begun}
-use Rattle.machine.specs.Steps.{Going}
+use Rattle.machine.specs.Steps.{Going, Pair}
 
 -- ---- what a code makes
 
@@ -120,9 +120,23 @@ three (a ∷ b ∷ []) h = absurd (omega arith)
 three (a ∷ b ∷ c ∷ []) h = refl
 three (a ∷ b ∷ c ∷ d ∷ cs) h = absurd (omega arith)
 
-pub pair-is : (k cut : ℕ) (ws cs : List ℕ) {r : ℕ} → length cs ≡ 3 → getD cs 0 0 < 4 → getD cs 1 0 < 4
-    → r ≡ made (kindOf (getD cs 2 0)) (getD ws (getD cs 2 0) 0) k cut (getD ws (getD cs 0 0) 0) (getD ws (getD cs 1 0) 0)
-    → r ≡ evaluated k cut ws cs begun
+pair-is : (k cut : ℕ) (ws cs : List ℕ) → Pair cs
+    → evaluated k cut ws cs begun ≡ made (kindOf (getD cs 2 0)) (getD ws (getD cs 2 0) 0) k cut (getD ws (getD cs 0 0) 0) (getD ws (getD cs 1 0) 0)
 unfolding evaluated stepped made moves
-pair-is k cut ws cs l a b e =
-    e ∙ sym (ap (λ (x : List ℕ). evaluated k cut ws x begun) (three cs l) ∙ rw (kind-store (getD cs 0 0) a, kind-store (getD cs 1 0) b))
+pair-is k cut ws cs p =
+    ap (λ (x : List ℕ). evaluated k cut ws x begun) (three cs (p .three)) ∙ rw (kind-store (getD cs 0 0) (p .first), kind-store (getD cs 1 0) (p .second))
+
+-- what joins two values asks neither a store's word nor which bits exist
+joined-alike : (c w v k cut a b : ℕ) → 16 ≤ c → c < 19 → made (kindOf c) w k cut a b ≡ made (kindOf c) v k 0 a b
+unfolding made kindOf
+joined-alike c w v k cut a b h l = go (ℕ-discrete c 16) (ℕ-discrete c 17)
+  where
+    go : Dec (c ≡ 16) → Dec (c ≡ 17) → made (kindOf c) w k cut a b ≡ made (kindOf c) v k 0 a b
+    go (yes e) d = rw e
+    go (no x) (yes e) = rw e
+    go (no x) (no y) = let e : c ≡ 18 = omega arith in rw e
+
+pub pair-made : (k cut : ℕ) (ws cs : List ℕ) → Pair cs → (v : ℕ)
+    → evaluated k cut ws cs begun ≡ made (kindOf (getD cs 2 0)) v k 0 (getD ws (getD cs 0 0) 0) (getD ws (getD cs 1 0) 0)
+pair-made k cut ws cs p v =
+    pair-is k cut ws cs p ∙ joined-alike (getD cs 2 0) (getD ws (getD cs 2 0) 0) v k cut (getD ws (getD cs 0 0) 0) (getD ws (getD cs 1 0) 0) (p .joins) (p .known)

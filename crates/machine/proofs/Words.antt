@@ -1,7 +1,7 @@
 -- The word that the code evaluates is the definition's; and where nothing is refused it is the word of the tree.
 use mathlib.Core.Bool.{Bool, true, false, cond}
 use mathlib.Core.List.{List, [], _∷_, map}
-use mathlib.Core.Path.{_≡_, refl, sym, ap, _∙_, subst}
+use mathlib.Core.Path.{_≡_, refl, sym, ap, ap₂, _∙_, subst}
 use Prim.Native.Nat.{ℕ, zero, suc, _+_, _%_, _≤_, _<_}
 use native.Mathlib.Omega.{arith}
 use borrow.Author.Tests.{ltb-true, ltb-false}
@@ -13,9 +13,11 @@ use Rattle.store.proofs.Ends.{end-is}
 use Rattle.store.proofs.Geometry.{end-step}
 use Rattle.store.proofs.Words.{word-in, word-out}
 use Rattle.codes.specs.Tree.{existing, four, nth, treeWord}
-use Rattle.codes.specs.Codes.{treeOf}
+use Rattle.codes.specs.Codes.{kindOf, treeOf}
 use Rattle.codes.proofs.Accepted.{Accepted, formula-one}
-use Rattle.machine.specs.Machine.{wordsIn, placesIn, placeOf, evaluated, begun, machineWord}
+use Rattle.machine.specs.Machine.{wordsIn, placesIn, placeOf, made, evaluated, begun, machineWord}
+use Rattle.machine.specs.Steps.{Pair}
+use Rattle.machine.proofs.Arms.{pair-made}
 use Rattle.machine.proofs.Held.{leaves-value}
 
 module _ (a b c d cs : List ℕ) (N layer i : ℕ) where
@@ -24,6 +26,28 @@ module _ (a b c d cs : List ℕ) (N layer i : ℕ) where
       → r ≡ evaluated (layer % 4) cut (w0 ∷ w1 ∷ w2 ∷ w3 ∷ []) cs begun → r ≡ machineWord N (four a b c d) cs layer i
   unfolding machineWord
   word-is at p cut e0 e1 e2 e3 r = r ∙ rw (e0, e1, e2, e3, cut, p, at)
+
+-- the word of the slice that a code names
+pub leaf-at : (a b c d : List ℕ) (at n : ℕ) {code r : ℕ} → code ≡ n → r ≡ getD (nth (four a b c d) n) at 0 → r ≡ getD (nth (four a b c d) code) at 0
+leaf-at a b c d at n e r = r ∙ ap (λ (x : ℕ). getD (nth (four a b c d) x) at 0) (sym e)
+
+-- a word of each of a list of slices, and of one by its number
+each : (f : List ℕ → ℕ) (ss : List (List ℕ)) (c : ℕ) → f [] ≡ 0 → getD (map f ss) c 0 ≡ f (nth ss c)
+each f [] c z = sym z
+each f (s ∷ ss) zero z = refl
+each f (s ∷ ss) (suc c) z = each f ss c z
+
+-- two stores and what joins them
+pub pair-word : (ss : List (List ℕ)) (cs : List ℕ) (N layer i v : ℕ) → Pair cs → {at x y r : ℕ} → at ≡ placeOf N (layer % 4) i
+    → x ≡ getD (nth ss (getD cs 0 0)) at 0 → y ≡ getD (nth ss (getD cs 1 0)) at 0 → r ≡ made (kindOf (getD cs 2 0)) v (layer % 4) 0 x y
+    → r ≡ machineWord N ss cs layer i
+unfolding machineWord
+pair-word ss cs N layer i v p {at} at-is x y r =
+    let k = layer % 4 in
+    let f : List ℕ → ℕ = λ s. getD s (placeOf N k i) 0 in
+    let leaf : (c : ℕ) → getD (nth ss c) at 0 ≡ getD (map f ss) c 0 = λ c. ap (λ (z : ℕ). getD (nth ss c) z 0) at-is ∙ sym (each f ss c refl) in
+    r ∙ ap₂ (made (kindOf (getD cs 2 0)) v k 0) (x ∙ leaf (getD cs 0 0)) (y ∙ leaf (getD cs 1 0))
+    ∙ sym (pair-made k (existing (placesIn N k) i) (map f ss) cs p v)
 
 -- ---- the words
 
@@ -47,12 +71,6 @@ places-are : (N k : ℕ) → 1 ≤ N → N ≤ maxCap → k ≤ top N → places
 unfolding placesIn room
 places-are N zero some most low = refl
 places-are N (suc k) some most low = words-are N k some most (omega arith)
-
--- a word of each of a list of slices, and of one by its number
-each : (f : List ℕ → ℕ) (ss : List (List ℕ)) (c : ℕ) → f [] ≡ 0 → getD (map f ss) c 0 ≡ f (nth ss c)
-each f [] c z = sym z
-each f (s ∷ ss) zero z = refl
-each f (s ∷ ss) (suc c) z = each f ss c z
 
 -- THE WORD of a formula over stores of capacity N is the tree's.
 pub machine-tree : (a b c d cs : List ℕ) (k i : ℕ) → Accepted a b c d cs → k ≤ top (cap a)

@@ -1,11 +1,19 @@
--- What the loop over the codes keeps.
+-- What the loop over the codes keeps, and what a short way asks.
 use mathlib.Core.List.{List}
 use mathlib.Core.Path.{_≡_}
-use Prim.Native.Nat.{ℕ, _<_}
-use lib.ListN.{drop}
+use Prim.Native.Nat.{ℕ, _≤_, _<_}
+use lib.ListN.{length, getD, drop}
 use Rattle.machine.specs.Machine.{evaluated, begun}
 
 -- after j codes: the value of the others on this stack is the value of all
 pub record Going (k cut : ℕ) (ws cs v : List ℕ) (d b j : ℕ) : Type 0 where
   pub inside : d < 8
   pub same : evaluated k cut ws (drop j cs) (record { words = v; place = d; last = b }) ≡ evaluated k cut ws cs begun
+
+-- two stores and a code that joins them
+pub record Pair (cs : List ℕ) : Type 0 where
+  pub three : length cs ≡ 3
+  pub first : getD cs 0 0 < 4
+  pub second : getD cs 1 0 < 4
+  pub joins : 16 ≤ getD cs 2 0
+  pub known : getD cs 2 0 < 19

@@ -1,10 +1,12 @@
 // The layer word of a formula, its codes one after another on a stack: the Rust's `BitSetAnd`, `BitSetOr`, `BitSetXor`, `BitSetNot` and
 // `BitSetAll` of ops.rs.
+ghost use mathlib.Core.Bool.{true};
 ghost use mathlib.Core.Path.{_≡_};
 ghost use Prim.Native.Nat.{suc, _≤_, _<_};
 ghost use lib.ListN.{getD};
-ghost use Rattle.codes.specs.Tree.{existing, four};
+ghost use Rattle.codes.specs.Tree.{existing, four, nth};
 ghost use Rattle.codes.specs.Codes.{kindOf};
+ghost use Rattle.machine.specs.Steps.{Pair};
 ghost use Rattle.machine.specs.Machine.{wordsIn, placesIn, placeOf, made, moves, evaluated, begun, machineWord};
 
 // The words of layer k.
@@ -108,22 +110,36 @@ fn evaluate(codes: &[u8], k: usize, cut: u64, words: &[u64; 4]) -> u64
     last
 }
 
-// The value of the codes. Two stores and a third code, the commonest formula, need no stack.
-fn value(codes: &[u8], k: usize, cut: u64, words: &[u64; 4]) -> u64
-    ensures { λ r. ⌜ r ≡ evaluated k cut (now (words .entry)) (now (codes .entry)) begun ⌝ }
+// Whether the codes are two stores and what joins them, the commonest formula: it needs no stack.
+fn is_pair(codes: &[u8]) -> bool
+    ensures { λ r. ⌜ (r ≡ true → Pair (now (codes .entry))) ⌝ }
 {
-    if codes.len() == 3 {
-        let a = codes[0];
-        let b = codes[1];
-        if a < 4 {
-            if b < 4 {
-                let i = a as usize;
-                let j = b as usize;
-                return made(codes[2], k, cut, words, words[i], words[j]);
-            }
-        }
+    if codes.len() != 3 {
+        return false;
     }
-    evaluate(codes, k, cut, words)
+    if 3 < codes[0] {
+        return false;
+    }
+    if 3 < codes[1] {
+        return false;
+    }
+    if codes[2] < 16 {
+        return false;
+    }
+    codes[2] < 19
+}
+
+// The word at a place of the slice that a code names.
+fn leaf(code: u8, at: usize, s0: &[u64], s1: &[u64], s2: &[u64], s3: &[u64]) -> u64
+    requires { ⌜ code < 4 ⌝ }
+    ensures { λ r. ⌜ r ≡ getD (nth (four (now (s0 .entry)) (now (s1 .entry)) (now (s2 .entry)) (now (s3 .entry))) code) at 0 ⌝ }
+{
+    match code {
+        0 => store::get(s0, at),
+        1 => store::get(s1, at),
+        2 => store::get(s2, at),
+        _ => store::get(s3, at),
+    }
 }
 
 // Word i of a layer of a formula over four slices, those that are stores being of capacity n; the layer's number counts modulo 4.
@@ -141,6 +157,12 @@ pub fn word(
 {
     let k = layer % 4;
     let at = place(n, k, i);
+    if is_pair(codes) {
+        let a = leaf(codes[0], at, s0, s1, s2, s3);
+        let b = leaf(codes[1], at, s0, s1, s2, s3);
+        let none = [0u64; 4];
+        return made(codes[2], k, 0, &none, a, b);
+    }
     let cut = existing(places(n, k), i);
     let words = [
         store::get(s0, at),
@@ -148,5 +170,5 @@ pub fn word(
         store::get(s2, at),
         store::get(s3, at),
     ];
-    value(codes, k, cut, &words)
+    evaluate(codes, k, cut, &words)
 }
