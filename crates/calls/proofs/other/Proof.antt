@@ -1,10 +1,7 @@
 -- `calls::other` meets its contract. Assumes nothing.
-use mathlib.Core.Path.{ap}
-use Rattle.said.specs.Numbers.{left}
-use Rattle.said.specs.declared.Said.{Said}
 use Rattle.maps.specs.Calls.{changeOf as ofMaps}
 use Rattle.calls.specs.Calls.{asked, otherOf}
-use Rattle.calls.proofs.Links.{first-of, next-of}
+use Rattle.calls.proofs.Links.{first-of, asked-of}
 use borrow.Author.Needs.{needs}
 use Rattle.calls.proofs.other.Statement.{statement}
 use Rattle.calls.proofs.other.Tie as tie
@@ -29,7 +26,7 @@ returns-2 : tie.Need-returns-2
 unfolding otherOf
 returns-2 c =
     let u = c .before .before in
-    next-of ofMaps asked _ _ _ (u .before .before .before .before .change .ensures) (u .if1 .left) (ap (λ (x : Said). left x _) (c .ask .ensures))
+    asked-of ofMaps _ _ _ (u .before .before .before .before .change .ensures) (u .if1 .left) (c .ask .ensures)
 
 pub other-spec : {M : Type 1} → statement M
 other-spec = tie.close (tie.spec change-requires same-length returns ask-requires same-length-2 returns-2)
