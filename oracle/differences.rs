@@ -1,5 +1,5 @@
 //! The crate's side of docs/DIFFERENCES.md: a line for each row that can be shown on calls that stand, in the words of oracle/differences.txt.
-use hibitset::{BitSet, BitSetLike};
+use hibitset::{BitIter, BitSet, BitSetLike};
 use hibitset_util::Row;
 use std::panic::{catch_unwind, AssertUnwindSafe};
 
@@ -75,6 +75,7 @@ fn equality() {
     grown.remove(0);
     println!("14 equal {}", yes(BitSet::new() == grown));
     println!("15 lengths {:?}", lengths(&cleared));
+    println!("16 contains_set {}", yes(of(64, &[3]).contains_set(&of(1_024, &[3]))));
 }
 
 /// A set of ids below n.
@@ -99,6 +100,16 @@ fn shifts() {
     println!("31 offset {}", id.offset(64));
 }
 
+fn cursors() {
+    let set = BitSet::with_capacity(262_151);
+    let ids: Vec<u32> = BitIter::new(&set, [6, 0, 0, 0], [5, 0, 0]).collect();
+    println!("27 masks 6, 0, 0, 0, prefixes 5, 0, 0: walk {ids:?}");
+    let ids: Vec<u32> = BitIter::new(&set, [1, 0, 0, 0], [4_294_967_232, 0, 0]).collect();
+    println!("28 masks 1, 0, 0, 0, prefixes 4294967232, 0, 0: walk {ids:?}");
+    let set = of(262_152, &[5, 262_151]);
+    println!("29 next of [5, 262151] {:?}", set.iter().next());
+}
+
 fn main() {
     std::panic::set_hook(Box::new(|_| ()));
     top_ids();
@@ -108,5 +119,6 @@ fn main() {
     and_assign(18, 262_152, &[1], &[2]);
     and_assign(19, 262_152, &[5, 262_151], &[5]);
     and_assign(20, M, &[5, 16_515_072], &[5]);
+    cursors();
     shifts();
 }
