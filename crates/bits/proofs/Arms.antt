@@ -4,7 +4,7 @@ use mathlib.Core.Path.{_≡_}
 use Prim.Native.Nat.{ℕ, _≤_, _<_}
 use native.Mathlib.Omega.{arith}
 use borrow.Author.Tests.{lt-ltb, le-ltb, ne-eqb}
-use Rattle.util.specs.Average.{averageOf}
+use Rattle.average.specs.Average.{averageOf}
 use Rattle.util.specs.Row.{rowOf, offsetOf, maskOf, offsetsOf}
 use Rattle.desk.specs.Slots.{numberOf}
 use Rattle.said.specs.Numbers.{oneOf, unknown, saidOf}

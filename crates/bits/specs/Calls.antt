@@ -1,10 +1,10 @@
--- What the commands that ask for the calls of `util` answer. docs/REPLAY.md: "Any other line, also .. one with an unknown word, or one
--- with a wrong count of numbers, prints `?`".
+-- What the commands that ask for the calls of `util` and `average` answer. docs/REPLAY.md: "Any other line, also .. one with an unknown
+-- word, or one with a wrong count of numbers, prints `?`".
 use mathlib.Core.Bool.{cond}
 use mathlib.Core.List.{List}
 use Prim.Native.Nat.{ℕ}
 use lib.Dec.{eqb}
-use Rattle.util.specs.Average.{averageOf}
+use Rattle.average.specs.Average.{averageOf}
 use Rattle.util.specs.Row.{rowOf, offsetOf, maskOf, offsetsOf}
 use Rattle.util.specs.declared.Parents.{Parents}
 use Rattle.desk.specs.Slots.{numberOf, isId}

@@ -1,12 +1,12 @@
-// The commands of a script that ask for the calls of `util` (docs/REPLAY.md).
+// The commands of a script that ask for the calls of `util` and `average` (docs/REPLAY.md).
 ghost use mathlib.Core.List.{[]};
 ghost use mathlib.Core.Path.{_≡_};
-ghost use Rattle.util.specs.Average.{averageOf};
+ghost use Rattle.average.specs.Average.{averageOf};
 ghost use Rattle.util.specs.Row.{offsetsOf};
 ghost use Rattle.said.specs.Numbers.{saidOf};
 ghost use Rattle.bits.specs.Calls.{parentsOf, ask1Of, ask2Of, askOf};
+use average::Half;
 use said::Said;
-use util::Half;
 
 // The command words, a letter a byte, the first the highest.
 const AVERAGE: u64 = 0x61_7665_7261_6765;
@@ -37,7 +37,7 @@ fn none() -> Said
 fn average(w: u64) -> Said
     ensures { λ r. ⌜ r ≡ saidOf (averageOf w .numbers) ⌝ }
 {
-    let half = util::average_ones(w);
+    let half = average::average_ones(w);
     match half {
         Half::At(b) => said::one(b),
         Half::Nothing => none(),

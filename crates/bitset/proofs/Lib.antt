@@ -3,4 +3,3 @@ pub mod Moves
 pub mod Steps
 pub mod Places
 pub mod Answers
-pub mod Theorems

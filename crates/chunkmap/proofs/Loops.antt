@@ -11,7 +11,7 @@ use lib.Count.{ones, ones-le}
 use lib.Dec.{eqb}
 use lib.ListN.{length, getD, set, drop, length-set}
 use lib.Seq.{sets, length-sets}
-use Rattle.util.proofs.Average.{count-ones}
+use Rattle.util.proofs.Count.{count-ones}
 use Rattle.store.specs.Build.{flag}
 use Rattle.store.proofs.Build.{flag-lt}
 use Rattle.summary.proofs.Layers.{flag-byte}

@@ -9,7 +9,7 @@ use lib.Count.{ones, ones-le}
 use lib.ListN.{length, getD, set, take, drop, length-set}
 use lib.Seq.{drop-drop}
 use Rattle.util.specs.Word.{count}
-use Rattle.util.proofs.Average.{count-ones}
+use Rattle.util.proofs.Count.{count-ones}
 use Rattle.le.specs.Bytes.{num, numAt}
 use Rattle.le.proofs.Numbers.{more, pow-at-most, num-at-suc}
 use Rattle.mapread.specs.Judge.{numberIn, wordIn, behind, entryOk, good, total, fill}

@@ -16,7 +16,7 @@ use Rattle.store.proofs.Geometry.{is-store}
 use Rattle.bitset.specs.Calls.{moveOf, addOf, removeOf}
 use Rattle.bitset.specs.Edit.{holds, edits, layersOf}
 use Rattle.bitset.proofs.Edits.{cap-edits, length-edits}
-use Rattle.bitset.proofs.Theorems.{sound-after-add, sound-after-remove}
+use Rattle.sets.proofs.Theorems.{sound-after-add, sound-after-remove}
 use Rattle.whole.specs.Calls.{openOf}
 use Rattle.whole.proofs.Theorems.{opened as opened-is}
 use Rattle.listed.specs.Members.{lineOf}

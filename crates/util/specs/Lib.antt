@@ -1,5 +1,3 @@
 pub mod Word
 pub mod Row
 pub mod Outcome
-pub mod Average
-pub mod Search

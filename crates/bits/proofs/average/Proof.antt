@@ -1,6 +1,6 @@
 -- `bits::average` meets its contract. Assumes nothing.
 use mathlib.Core.Path.{ap, _∙_}
-use Rattle.util.specs.Average.{paper}
+use Rattle.average.specs.Average.{paper}
 use Rattle.said.specs.Numbers.{saidOf}
 use Rattle.said.proofs.Told.{told}
 use borrow.Author.Needs.{needs}

@@ -3,7 +3,7 @@ use mathlib.Core.Path.{sym, ap}
 use Prim.Native.Nat.{ℕ}
 use borrow.Author.Tests.{eq-eqb, ne-eqb}
 use lib.Dec.{leb}
-use Rattle.util.proofs.Average.{count-ones}
+use Rattle.util.proofs.Count.{count-ones}
 use Rattle.groups.specs.Group.{isDense}
 use Rattle.groups.proofs.is_dense.Statement.{statement}
 use Rattle.groups.proofs.is_dense.Tie as tie

@@ -11,30 +11,23 @@ use borrow.Author.Tests.{eq-eqb, ne-eqb}
 use lib.Arith.{lt-one}
 use lib.Dec.{eqb}
 use lib.Pow.{shr-lt, shr-le}
-use lib.Count.{ones, onesIn, ones-step}
+use lib.Count.{ones}
 use Rattle.util.specs.Word.{bit, count, places}
 use Rattle.util.specs.Outcome.{Settled}
-use Rattle.util.specs.Average.{paper, splits, averageOf}
-use Rattle.util.specs.Search.{above}
-use Rattle.util.specs.declared.Half.the-variants.{At, Nothing}
+use Rattle.average.specs.Average.{paper, splits, averageOf}
+use Rattle.average.specs.Search.{above}
+use Rattle.average.specs.declared.Half.the-variants.{At, Nothing}
 use Rattle.util.proofs.Bits.{bit-lt}
+use Rattle.util.proofs.Count.{count-ones}
 use Rattle.util.proofs.Places.{places-none, places-one}
-use Rattle.util.proofs.Tally.{above-split, above-step}
-
--- the count by 64 digits is the count
-count-in : (d n : ℕ) → n < 2 ^ d → onesIn d n ≡ ones n
-unfolding onesIn ones
-count-in zero n h = sym (ap ones (lt-one h))
-count-in (suc d) n h = ap (λ (x : ℕ). n % 2 + x) (count-in d (n / 2) (omega arith)) ∙ sym (ones-step n)
+use Rattle.average.proofs.Tally.{above-split, above-step}
 
 module _ (n : ℕ) (word : n < 2 ^ 64) where
-  pub count-ones : count n ≡ ones n
-  unfolding count
-  count-ones = count-in 64 n word
+  counted : count n ≡ ones n
+  counted = count-ones n word
 
   count-above : (p : ℕ) → count (n / 2 ^ p) ≡ above n p
-  unfolding count
-  count-above p = count-in 64 (n / 2 ^ p) (omega (arith, shr-le n p))
+  count-above p = count-ones (n / 2 ^ p) (omega (arith, shr-le n p))
 
   step : (p : ℕ) → above n p ≡ above n (suc p) + bit n p
   unfolding bit
@@ -47,7 +40,7 @@ module _ (n : ℕ) (word : n < 2 ^ 64) where
   -- p splits n exactly if it is set and has half at or above it
   splits-here : (p : ℕ) → above n p ≡ ones n / 2 → bit n p ≡ 1 → splits n p ≡ 1
   unfolding splits
-  splits-here p e b = ap (λ (x : Bool). cond x (bit n p) 0) (eq-eqb (count (n / 2 ^ p)) (count n / 2) (count-above p ∙ e ∙ ap (λ (x : ℕ). x / 2) (sym count-ones))) ∙ b
+  splits-here p e b = ap (λ (x : Bool). cond x (bit n p) 0) (eq-eqb (count (n / 2 ^ p)) (count n / 2) (count-above p ∙ e ∙ ap (λ (x : ℕ). x / 2) (sym counted))) ∙ b
 
   splits-not : (p : ℕ) → (above n p ≡ ones n / 2 → bit n p ≡ 0) → splits n p ≡ 0
   unfolding splits
@@ -56,7 +49,7 @@ module _ (n : ℕ) (word : n < 2 ^ 64) where
       go : Dec (count (n / 2 ^ p) ≡ count n / 2) → cond (eqb (count (n / 2 ^ p)) (count n / 2)) (bit n p) 0 ≡ 0
       go (yes e) =
           ap (λ (x : Bool). cond x (bit n p) 0) (eq-eqb (count (n / 2 ^ p)) (count n / 2) e)
-          ∙ h (sym (count-above p) ∙ e ∙ ap (λ (x : ℕ). x / 2) count-ones)
+          ∙ h (sym (count-above p) ∙ e ∙ ap (λ (x : ℕ). x / 2) counted)
       go (no e) = ap (λ (x : Bool). cond x (bit n p) 0) (ne-eqb (count (n / 2 ^ p)) (count n / 2) e)
 
   -- two set bits have different numbers of set bits at or above them
@@ -114,14 +107,14 @@ module _ (n : ℕ) (word : n < 2 ^ 64) where
   pub one-splits : 2 ≤ count n
       → (p : ℕ) × (averageOf n .numbers ≡ p ∷ []) × (p < 64) × (bit n p ≡ 1) × (count (n / 2 ^ p) ≡ count n / 2)
   one-splits c =
-      let e = ends (ones n / 2) 64 (omega (arith, above-none, count-ones)) (omega (arith, above-all)) in
+      let e = ends (ones n / 2) 64 (omega (arith, above-none, counted)) (omega (arith, above-all)) in
       let s = step (e .0) in (
         e .0,
         sym (found (e .0) (e .1) (e .2) (e .3) .answer),
         e .1,
         omega (arith, e .2, e .3, bit-lt n (e .0)),
-        omega (arith, count-above (e .0), count-ones, e .2, e .3, bit-lt n (e .0)),
+        omega (arith, count-above (e .0), counted, e .2, e .3, bit-lt n (e .0)),
       )
 
   pub none-splits : count n ≤ 1 → averageOf n .numbers ≡ []
-  none-splits c = sym (none-found (omega (arith, count-ones)) .answer)
+  none-splits c = sym (none-found (omega (arith, counted)) .answer)

@@ -5,9 +5,9 @@ use native.Mathlib.Nat.{suc-mul, add-mul, mul-add, lt-of-not-le, mul-le-mul-righ
 use native.Mathlib.Omega.{arith}
 use lib.Bits.{bitAnd}
 use lib.Count.{ones}
-use Rattle.util.specs.Search.{tally, above, Within, Step}
-use Rattle.util.specs.declared.Search.{Search}
-use Rattle.util.proofs.Tally.{above-split, field-masked}
+use Rattle.average.specs.Search.{tally, above, Within, Step}
+use Rattle.average.specs.declared.Search.{Search}
+use Rattle.average.proofs.Tally.{above-split, field-masked}
 
 module _ (n t : ℕ) (s : Search) (child k mask : ℕ) (g : Step n t s child k mask) where
   -- the child's field below place r, where r is suc f times k + k, has the count of the upper half

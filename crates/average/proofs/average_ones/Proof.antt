@@ -1,4 +1,4 @@
--- `util::average_ones` meets its contract: the search starts at the whole word, each `descend` halves the field, and the last
+-- `average::average_ones` meets its contract: the search starts at the whole word, each `descend` halves the field, and the last
 -- comparison leaves one bit. Assumes nothing.
 use mathlib.Core.Path.{_≡_, refl, sym, ap, _∙_}
 use Prim.Native.Nat.{ℕ, suc, _+_, _-_, _*_, _/_, _^_, _≤_, _<_}
@@ -10,15 +10,15 @@ use lib.Dec.{T, ltb, leb, lit<, ltb→lt, leb→le}
 use lib.Pow.{shr-lt}
 use lib.Bits.{bitAnd}
 use lib.Count.{ones, ones-le}
 use Rattle.util.specs.Outcome.{Settled}
-use Rattle.util.specs.Average.{paper, averageOf}
-use Rattle.util.specs.Search.{tally, above, Within, Step}
-use Rattle.util.specs.declared.Half.the-variants.{At}
-use Rattle.util.specs.declared.Search.{Search}
-use Rattle.util.proofs.Tally.{lower, twice, byOneMask, tally-bits, tally-whole, mask-widens, field-lt}
-use Rattle.util.proofs.Average.{found, none-found, above-none, above-all}
-use Rattle.util.proofs.average_ones.Statement.{statement}
-use Rattle.util.proofs.average_ones.Tie as tie
+use Rattle.average.specs.Average.{paper, averageOf}
+use Rattle.average.specs.Search.{tally, above, Within, Step}
+use Rattle.average.specs.declared.Half.the-variants.{At}
+use Rattle.average.specs.declared.Search.{Search}
+use Rattle.average.proofs.Tally.{lower, twice, byOneMask, tally-bits, tally-whole, mask-widens, field-lt}
+use Rattle.average.proofs.Average.{found, none-found, above-none, above-all}
+use Rattle.average.proofs.average_ones.Statement.{statement}
+use Rattle.average.proofs.average_ones.Tie as tie
 
 -- ---- the count, and the start of the search
 

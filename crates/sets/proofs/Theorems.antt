@@ -17,10 +17,10 @@ use Rattle.store.specs.Answer.{says, refuses}
 use Rattle.store.specs.Layout.{top, cap, isStore, StoreOf}
 use Rattle.store.specs.Word.{on, Member, Sound}
 use Rattle.store.proofs.Geometry.{is-store, store-is, store-kept}
 use Rattle.bitset.specs.Calls.{containsOf, moveOf, addOf, removeOf, allBelow, addAll, addListOf}
 use Rattle.bitset.specs.Edit.{holds, edits, addLayers, removeLayers, layersOf}
 use Rattle.bitset.proofs.Edits.{length-edits, cap-edits}
-use Rattle.bitset.proofs.Moves.{sound-add, sound-remove, on-add, on-remove}
+use Rattle.sets.proofs.Moves.{sound-add, sound-remove, on-add, on-remove}
 
 -- members of a store of capacity N, by the bits of layer 0
 member-on : {N : ℕ} {s : List ℕ} {j : ℕ} → cap s ≡ N → Member s j → (j < N) × (on N s 0 j ≡ 1)

@@ -1,8 +1,8 @@
--- `util::descend` meets its contract: one law over the stride, for each half. Assumes nothing.
+-- `average::descend` meets its contract: one law over the stride, for each half. Assumes nothing.
 use borrow.Author.Needs.{needs}
-use Rattle.util.proofs.Descent.{to-lower, to-upper}
-use Rattle.util.proofs.descend.Statement.{statement}
-use Rattle.util.proofs.descend.Tie as tie
+use Rattle.average.proofs.Descent.{to-lower, to-upper}
+use Rattle.average.proofs.descend.Statement.{statement}
+use Rattle.average.proofs.descend.Tie as tie
 
 mul-result : tie.Need-mul-result
 mul-result c = search needs

@@ -9,7 +9,7 @@ use lib.Arith.{digits-div, digits-mod, digits-lt, lt-one}
 use lib.Pow.{pow-pos, pow-add, pow-lt, pow-mono, shr-shr, mod-pow-add, mod-mod-pow, split}
 use lib.Bits.{bitAnd, and-block, and-mask, and-zero-r, and-le-l}
 use lib.Count.{ones, ones-cat, ones-le, ones-step}
-use Rattle.util.specs.Search.{tally, above}
+use Rattle.average.specs.Search.{tally, above}
 
 -- ---- the count of one field
 

@@ -1,4 +1,4 @@
--- `util::count_fields` meets its contract: each sum stays in a word, since it is of masked words, and each level is the counts of
+-- `average::count_fields` meets its contract: each sum stays in a word, since it is of masked words, and each level is the counts of
 -- fields twice as wide. Assumes nothing.
 use mathlib.Core.Path.{_≡_, refl, sym, ap, _∙_}
 use Prim.Native.Nat.{ℕ, _+_, _-_, _/_, _^_, _<_, _≤_}
@@ -7,10 +7,10 @@ use native.Mathlib.Omega.{arith}
 use lib.Dec.{lit<}
 use lib.Pow.{shr-le}
 use lib.Bits.{bitAnd, and-le-l, and-le-r}
-use Rattle.util.specs.Search.{tally}
-use Rattle.util.proofs.Tally.{lower, twice, byMinus, byMasks, byOneMask, tally-bits, minus-widens, masks-widen, mask-widens}
-use Rattle.util.proofs.count_fields.Statement.{statement}
-use Rattle.util.proofs.count_fields.Tie as tie
+use Rattle.average.specs.Search.{tally}
+use Rattle.average.proofs.Tally.{lower, twice, byMinus, byMasks, byOneMask, tally-bits, minus-widens, masks-widen, mask-widens}
+use Rattle.average.proofs.count_fields.Statement.{statement}
+use Rattle.average.proofs.count_fields.Tie as tie
 
 abbrev A : ℕ → ℕ
 A n = n - bitAnd (n / 2) 0x5555_5555_5555_5555
