@@ -1,9 +1,9 @@
--- `export::told_batch` meets its contract. Assumes nothing.
+-- `steps::told_batch` meets its contract. Assumes nothing.
 use mathlib.Core.Path.{_∙_}
 use borrow.Author.Needs.{needs}
-use Rattle.export.proofs.Left.{kept, wrote}
-use Rattle.export.proofs.told_batch.Statement.{statement}
-use Rattle.export.proofs.told_batch.Tie as tie
+use Rattle.steps.proofs.Left.{kept, wrote}
+use Rattle.steps.proofs.told_batch.Statement.{statement}
+use Rattle.steps.proofs.told_batch.Tie as tie
 
 stopped-requires : tie.Need-stopped-requires
 stopped-requires c κs = search needs

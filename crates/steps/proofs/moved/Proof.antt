@@ -1,9 +1,9 @@
--- `export::moved` meets its contract. Assumes nothing.
+-- `steps::moved` meets its contract. Assumes nothing.
 use mathlib.Core.Path.{sym, ap}
 use borrow.Author.Needs.{needs}
-use Rattle.export.specs.Walk.{stepOf}
-use Rattle.export.proofs.moved.Statement.{statement}
-use Rattle.export.proofs.moved.Tie as tie
+use Rattle.steps.specs.Answers.{stepOf}
+use Rattle.steps.proofs.moved.Statement.{statement}
+use Rattle.steps.proofs.moved.Tie as tie
 
 enum-known-a : tie.Need-enum-known-a
 enum-known-a c = search needs

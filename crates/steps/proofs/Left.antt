@@ -4,9 +4,9 @@ use mathlib.Core.Path.{_≡_, sym, ap, _∙_}
 use Prim.Native.Nat.{ℕ}
 use borrow.Author.Tests.{eq-eqb, ne-eqb}
 use Rattle.iter.specs.declared.Cursor.{Cursor}
-use Rattle.export.specs.declared.Step.{Step}
+use Rattle.steps.specs.declared.Step.{Step}
 use Rattle.words.specs.Ten.{putOf}
-use Rattle.export.specs.Walk.{leftOf}
+use Rattle.steps.specs.Answers.{leftOf}
 
 abbrev kind : Step → ℕ
 kind a = a .which

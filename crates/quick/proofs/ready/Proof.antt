@@ -1,4 +1,4 @@
--- `words::ready` meets its contract. Assumes nothing.
+-- `quick::ready` meets its contract. Assumes nothing.
 use mathlib.Core.Path.{_≡_, sym, _∙_}
 use mathlib.Core.Bool.{true}
 use Prim.Native.Nat.{_≤_, _<_}
@@ -9,9 +9,9 @@ use lib.Dec.{ltb}
 use lib.ListN.{getD}
 use Rattle.store.proofs.Ends.{some-store, no-store}
 use Rattle.store.proofs.Geometry.{is-store}
-use Rattle.words.specs.Ten.{readyOf}
-use Rattle.words.proofs.ready.Statement.{statement}
-use Rattle.words.proofs.ready.Tie as tie
+use Rattle.quick.specs.Handing.{readyOf}
+use Rattle.quick.proofs.ready.Statement.{statement}
+use Rattle.quick.proofs.ready.Tie as tie
 
 element-copy-out-if1 : tie.Need-element-copy-out-if1
 element-copy-out-if1 c = search needs

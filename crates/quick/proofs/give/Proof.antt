@@ -1,4 +1,4 @@
--- `words::give` meets its contract. Assumes nothing.
+-- `quick::give` meets its contract. Assumes nothing.
 use mathlib.Core.List.{_∷_, []}
 use mathlib.Core.Path.{refl, ap}
 use Prim.Native.Nat.{ℕ}
@@ -6,9 +6,9 @@ use native.Mathlib.Omega.{arith}
 use borrow.Author.Needs.{needs}
 use lib.Count.{trailing-le}
 use lib.ListN.{getD}
-use Rattle.words.specs.Ten.{idOf, handedOf}
-use Rattle.words.proofs.give.Statement.{statement}
-use Rattle.words.proofs.give.Tie as tie
+use Rattle.quick.specs.Handing.{idOf, handedOf}
+use Rattle.quick.proofs.give.Statement.{statement}
+use Rattle.quick.proofs.give.Tie as tie
 
 element-copy-out-m : tie.Need-element-copy-out-m
 element-copy-out-m c = search needs

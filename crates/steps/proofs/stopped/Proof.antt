@@ -1,10 +1,10 @@
--- `export::stopped` meets its contract. Assumes nothing.
+-- `steps::stopped` meets its contract. Assumes nothing.
 use mathlib.Core.Path.{sym, ap}
 use borrow.Author.Needs.{needs}
 use Rattle.iter.specs.declared.Stop.{Stop}
-use Rattle.export.specs.Walk.{stopOf}
-use Rattle.export.proofs.stopped.Statement.{statement}
-use Rattle.export.proofs.stopped.Tie as tie
+use Rattle.steps.specs.Answers.{stopOf}
+use Rattle.steps.proofs.stopped.Statement.{statement}
+use Rattle.steps.proofs.stopped.Tie as tie
 
 enum-told : tie.Need-enum-told
 enum-told c = search needs

@@ -1,9 +1,9 @@
--- `export::told_step` meets its contract. Assumes nothing.
+-- `steps::told_step` meets its contract. Assumes nothing.
 use mathlib.Core.Path.{_∙_}
 use borrow.Author.Needs.{needs}
-use Rattle.export.proofs.Left.{kept, wrote}
-use Rattle.export.proofs.told_step.Statement.{statement}
-use Rattle.export.proofs.told_step.Tie as tie
+use Rattle.steps.proofs.Left.{kept, wrote}
+use Rattle.steps.proofs.told_step.Statement.{statement}
+use Rattle.steps.proofs.told_step.Tie as tie
 
 moved-requires : tie.Need-moved-requires
 moved-requires c κs = search needs

@@ -1,12 +1,12 @@
--- `words::quick` meets its contract. Assumes nothing.
+-- `quick::quick` meets its contract. Assumes nothing.
 use mathlib.Core.Bool.{true}
 use mathlib.Core.Path.{_≡_, refl, sym, ap, _∙_}
 use Prim.Native.Nat.{ℕ}
 use borrow.Author.Needs.{needs}
-use Rattle.words.specs.Ten.{readyOf}
-use Rattle.words.proofs.Quickly.{has-bit, small}
-use Rattle.words.proofs.quick.Statement.{statement}
-use Rattle.words.proofs.quick.Tie as tie
+use Rattle.quick.specs.Handing.{readyOf}
+use Rattle.quick.proofs.Quickly.{has-bit, small}
+use Rattle.quick.proofs.quick.Statement.{statement}
+use Rattle.quick.proofs.quick.Tie as tie
 
 ready-requires : tie.Need-ready-requires
 ready-requires c κs = search needs

@@ -12,12 +12,13 @@ use Rattle.util.proofs.Same.{both}
 use Rattle.store.specs.Layout.{top, cap, isStore}
 use Rattle.store.specs.Word.{word}
 use Rattle.iter.specs.declared.Next.the-variants.{Member}
-use Rattle.iter.specs.Calls.{prefixesFit, refused, nextIn}
+use Rattle.iter.specs.Calls.{prefixesFit, nextIn}
 use Rattle.iter.specs.Walk.{prefixAt, placeAt, less, handed}
 use Rattle.iter.proofs.Cursors.{Low, fine-of}
 use Rattle.iter.proofs.Turns.{next-gives}
-use Rattle.words.specs.declared.Hand.{Hand}
-use Rattle.words.specs.Ten.{prefixesOf, cursorOf, putOf, readyOf, idOf, handedOf, quickOf, quickWords}
+use Rattle.words.specs.Ten.{prefixesOf, cursorOf, putOf}
+use Rattle.quick.specs.declared.Hand.{Hand}
+use Rattle.quick.specs.Handing.{readyOf, idOf, handedOf, quickOf, quickWords}
 
 -- the three words where the prefixes stand
 abbrev three : List ℕ → List ℕ
@@ -69,12 +70,6 @@ module _ (s l : List ℕ) (h : readyOf s l ≡ true) where
       ap
       (λ (p : List ℕ). (m - 2 ^ trailingZeros 64 m) ∷ getD l 1 0 ∷ getD l 2 0 ∷ getD l 3 0 ∷ getD l 4 0 ∷ getD p 0 0 ∷ getD p 1 0 ∷ getD p 2 0 ∷ getD l 8 0 ∷ 0 ∷ [])
       same-prefixes
-
--- A word that is no 32-bit number is refused as any other number that is no prefix: after refusal 2, with 7.
-pub wide-refused : (s l : List ℕ) (b : ℕ) → isStore s ≡ true → (ltb (getD l 5 0) 4294967296 && (ltb (getD l 6 0) 4294967296 && ltb (getD l 7 0) 4294967296)) ≡ false
-    → nextIn s (cursorOf l) b ≡ refused 7 (cursorOf l)
-unfolding nextIn top cursorOf prefixesOf prefixesFit
-wide-refused s l b h w = rw (h, w)
 
 -- ---- by the answer
 
