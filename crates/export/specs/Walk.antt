@@ -1,39 +1,13 @@
 -- The walk as a C caller has it: a cursor is lent as ten words, and an answer is two numbers. Every definition here computes.
-use mathlib.Core.Bool.{cond}
 use mathlib.Core.List.{List}
 use Prim.Native.Nat.{ℕ}
-use lib.Dec.{eqb}
 use lib.ListN.{length}
-use Rattle.iter.specs.declared.Cursor.{Cursor}
-use Rattle.iter.specs.declared.Next.{Next}
-use Rattle.iter.specs.declared.Next.the-variants.{Member, Paused, End, Refused}
 use Rattle.iter.specs.declared.Step.{Step as Stepped}
-use Rattle.iter.specs.declared.Stop.{Stop}
-use Rattle.iter.specs.declared.Stop.the-variants.{Full, Paused as StopPaused, End as StopEnd, Refused as StopRefused}
 use Rattle.iter.specs.Calls.{startIn, nextIn}
 use Rattle.iter.specs.Fill.{Filled, filled, fillIn}
-use Rattle.words.specs.Ten.{cursorOf, putOf}
-use Rattle.export.specs.declared.Step.{Step}
-
--- ---- answers: "Each returns its number and zeros elsewhere and changes nothing lent; a refused next hands back its cursor as given."
-
--- 0 and the refusal's number, 1 and the member, 2 for paused, 3 for the end
-abbrev pub stepOf : Next → Step
-stepOf (Refused n) = record { which = 0; value = n }
-stepOf (Member v) = record { which = 1; value = v }
-stepOf Paused = record { which = 2; value = 0 }
-stepOf End = record { which = 3; value = 0 }
-
--- 0 and the refusal's number; 1 for full, 2 for paused, 3 for the end, and how many members
-abbrev pub stopOf : Stop → ℕ → Step
-stopOf (StopRefused n) k = record { which = 0; value = n }
-stopOf Full k = record { which = 1; value = k }
-stopOf StopPaused k = record { which = 2; value = k }
-stopOf StopEnd k = record { which = 3; value = k }
-
--- the words l at exit: as they were where the call is refused, else the cursor and the reads
-abbrev pub leftOf : Step → List ℕ → Cursor → ℕ → List ℕ
-leftOf a l c r = cond (eqb (a .which) 0) l (putOf l c r)
+use Rattle.words.specs.Ten.{cursorOf}
+use Rattle.steps.specs.Answers.{stopOf, leftOf}
+use Rattle.steps.specs.declared.Step.{Step}
 
 -- ---- the calls on a store s and the words l: what is answered, the words at exit, and `out` at exit
 
@@ -42,12 +16,6 @@ startedOf s l = startIn s (cursorOf l)
 
 abbrev pub steppedOf : List ℕ → List ℕ → ℕ → Stepped
 steppedOf s l b = nextIn s (cursorOf l) b
-
-abbrev pub movedOf : Stepped → Step
-movedOf a = stepOf (a .answer)
-
-abbrev pub wordsOf : Stepped → List ℕ → List ℕ
-wordsOf a l = leftOf (movedOf a) l (a .cursor) (a .reads)
 
 abbrev pub filledOf : List ℕ → List ℕ → ℕ → List ℕ → Filled
 filledOf s l b out = fillIn s (cursorOf l) b (length out)

@@ -3,10 +3,10 @@ ghost use mathlib.Core.Path.{_≡_};
 ghost use Rattle.bitset.specs.Calls.{containsOf, addOf, removeOf, addListOf};
 ghost use Rattle.free.specs.Calls.{firstFreeOf};
 ghost use Rattle.export.specs.Abi.{answerOf, toldOf};
-ghost use Rattle.export.specs.Walk.{stepOf, stopOf, leftOf, startedOf, steppedOf, movedOf, wordsOf, filledOf, stoppedOf, fillWordsOf, outOf};
-use iter::Next;
-use iter::Stop;
+ghost use Rattle.export.specs.Walk.{startedOf, steppedOf, filledOf, stoppedOf, fillWordsOf, outOf};
+ghost use Rattle.steps.specs.Answers.{movedOf, wordsOf};
 use said::Said;
+use steps::Step;
 
 // The refusal's number, 0 for none, and the value, 0 where there is none.
 #[repr(C)]
@@ -63,83 +63,6 @@ pub extern "C" fn fen_first_free(store: &[u64]) -> Answer
     told(said::found(free::first_free(store)))
 }
 
-// What a call of the walk says: 0 and the refusal's number; 1 and the member, or full and how many members; 2 paused; 3 the end.
-#[repr(C)]
-pub struct Step {
-    pub which: u64,
-    pub value: u64,
-}
-
-fn moved(a: Next) -> Step
-    ensures { λ r. ⌜ r ≡ stepOf a ⌝ }
-{
-    match a {
-        Next::Member(id) => Step {
-            which: 1,
-            value: id as u64,
-        },
-        Next::Paused => Step { which: 2, value: 0 },
-        Next::End => Step { which: 3, value: 0 },
-        Next::Refused(number) => Step {
-            which: 0,
-            value: number as u64,
-        },
-    }
-}
-
-fn stopped(e: Stop, count: usize) -> Step
-    ensures { λ r. ⌜ r ≡ stopOf e count ⌝ }
-{
-    match e {
-        Stop::Full => Step {
-            which: 1,
-            value: count as u64,
-        },
-        Stop::Paused => Step {
-            which: 2,
-            value: count as u64,
-        },
-        Stop::End => Step {
-            which: 3,
-            value: count as u64,
-        },
-        Stop::Refused(number) => Step {
-            which: 0,
-            value: number as u64,
-        },
-    }
-}
-
-// A step's cursor and reads are written, unless it is refused, and its answer said.
-fn told_step(words: &mut [u64; 10], s: iter::Step) -> Step
-    ensures { λ r. ⌜ r ≡ movedOf s ⌝ }
-    ensures { λ r. ⌜ now (words .exit) ≡ wordsOf s (now (words .entry)) ⌝ }
-{
-    let n = s.answer;
-    let a = moved(n);
-    if a.which == 0 {
-        return a;
-    }
-    let c = s.cursor;
-    words::put(words, c, s.reads);
-    a
-}
-
-// The same of a batch.
-fn told_batch(words: &mut [u64; 10], b: iter::Batch) -> Step
-    ensures { λ r. ⌜ r ≡ stopOf (b .stop) (b .count) ⌝ }
-    ensures { λ r. ⌜ now (words .exit) ≡ leftOf (stopOf (b .stop) (b .count)) (now (words .entry)) (b .cursor) (b .reads) ⌝ }
-{
-    let e = b.stop;
-    let a = stopped(e, b.count);
-    if a.which == 0 {
-        return a;
-    }
-    let c = b.cursor;
-    words::put(words, c, b.reads);
-    a
-}
-
 #[no_mangle]
 pub extern "C" fn fen_start(store: &[u64], cursor: &mut [u64; 10]) -> Step
     ensures { λ r. ⌜ r ≡ movedOf (startedOf (now (store .entry)) (now (cursor .entry))) ⌝ }
@@ -147,7 +70,7 @@ pub extern "C" fn fen_start(store: &[u64], cursor: &mut [u64; 10]) -> Step
 {
     let c = words::taken(cursor);
     let s = c.start(store);
-    told_step(cursor, s)
+    steps::told_step(cursor, s)
 }
 
 #[no_mangle]
@@ -155,7 +78,7 @@ pub extern "C" fn fen_next(store: &[u64], cursor: &mut [u64; 10], budget: u64) -
     ensures { λ r. ⌜ r ≡ movedOf (steppedOf (now (store .entry)) (now (cursor .entry)) budget) ⌝ }
     ensures { λ r. ⌜ now (cursor .exit) ≡ wordsOf (steppedOf (now (store .entry)) (now (cursor .entry)) budget) (now (cursor .entry)) ⌝ }
 {
-    let h = words::quick(store, cursor);
+    let h = quick::quick(store, cursor);
     if h.some {
         return Step {
             which: 1,
@@ -164,7 +87,7 @@ pub extern "C" fn fen_next(store: &[u64], cursor: &mut [u64; 10], budget: u64) -
     }
     let c = words::taken(cursor);
     let s = c.next(store, budget);
-    told_step(cursor, s)
+    steps::told_step(cursor, s)
 }
 
 #[no_mangle]
@@ -180,5 +103,5 @@ pub extern "C" fn fen_fill(
 {
     let c = words::taken(cursor);
     let b = c.fill(store, budget, out);
-    told_batch(cursor, b)
+    steps::told_batch(cursor, b)
 }

@@ -1,3 +1,1 @@
 pub mod Parsing
-pub mod Meaning
-pub mod Printing

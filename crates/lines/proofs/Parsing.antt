@@ -6,9 +6,9 @@ use native.Mathlib.Decide.{decLt}
 use native.Mathlib.Omega.{arith}
 use borrow.Author.Tests.{lt-ltb, le-ltb, eq-eqb, ne-eqb}
 use lib.ListN.{length, drop, getD, length-drop}
-use Rattle.text.specs.Number.{digits, valueAfter, numberOf}
-use Rattle.text.specs.declared.Decimal.{Decimal}
-use Rattle.text.specs.declared.Decimal.the-variants.{Is, Nothing}
+use Rattle.input.specs.Number.{digits, valueAfter, numberOf}
+use Rattle.input.specs.declared.Decimal.{Decimal}
+use Rattle.input.specs.declared.Decimal.the-variants.{Is, Nothing}
 use Rattle.lines.specs.Line.{idOf, withId, commandOf}
 use Rattle.lines.specs.declared.Id.{Id}
 use Rattle.lines.specs.declared.Id.the-variants.{At, Bad}
@@ -40,7 +40,7 @@ module _ (bs : List ℕ) where
         unfolding idOf
         id-is h = simp (le-ltb _ _ short, ne-eqb _ _ some, le-ltb _ _ fits, le-ltb _ _ h)
 
--- ---- what `text::number` read from place 2 on
+-- ---- what `input::number` read from place 2 on
 
 module _ (line : List ℕ) where
   number-none : length (digits (drop 2 line)) ≡ 0 → numberOf line 2 4294967295 ≡ Nothing

@@ -5,7 +5,7 @@ use mathlib.Core.List.{List, [], _∷_}
 use Prim.Native.Nat.{ℕ}
 use lib.Dec.{eqb, ltb}
 use lib.ListN.{length}
-use Rattle.text.specs.Number.{digits, valueAfter}
+use Rattle.input.specs.Number.{digits, valueAfter}
 use Rattle.lines.specs.declared.Id.{Id}
 use Rattle.lines.specs.declared.Id.the-variants.{At, Bad}
 use Rattle.lines.specs.declared.Command.{Command}

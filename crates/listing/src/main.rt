@@ -40,7 +40,7 @@ fn feed(store: &mut [u64], line: &mut [u8], buf: &mut [u8], st: State, piece: &[
     let mut s = st;
     let mut i = 0usize;
     while i < piece.len() {
-        let g = text::gather(line, s.len, piece, i);
+        let g = input::gather(line, s.len, piece, i);
         i = g.next;
         s = step(store, line, buf, s, g.len, g.ended);
     }

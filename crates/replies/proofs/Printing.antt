@@ -6,7 +6,7 @@ use Rattle.util.specs.Outcome.{Outcome, Settled}
 use Rattle.store.specs.Answer.{askedPaper}
 use Rattle.store.specs.declared.Asked.{Asked}
 use Rattle.text.specs.Out.{Held, putAllOf}
-use Rattle.lines.specs.Reply.{replyOf}
+use Rattle.printed.specs.Reply.{replyOf}
 use Rattle.lines.specs.declared.Command.{Command}
 use Rattle.replies.specs.Replies.{afterOf, answered, printedOf}
 

@@ -12,7 +12,7 @@ use Rattle.store.specs.Word.{Sound}
 use Rattle.bitset.specs.Calls.{addOf, removeOf, containsOf}
 use Rattle.text.specs.Out.{decimalOf}
 use Rattle.listed.specs.Members.{membersOf}
-use Rattle.lines.specs.Reply.{replyOf}
+use Rattle.printed.specs.Reply.{replyOf}
 use Rattle.lines.specs.declared.Command.{Command}
 use Rattle.lines.specs.declared.Command.the-variants.{Add, Remove, Contains, List as Members, Unknown}
 

@@ -1,5 +1,2 @@
 pub mod Out
-pub mod Line
-pub mod Digits
 pub mod Spelling
-pub mod Meaning

@@ -1,1 +1,1 @@
-pub mod Quickly
+pub mod Wide

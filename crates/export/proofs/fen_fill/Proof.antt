@@ -9,7 +9,8 @@ use Rattle.iter.specs.declared.Cursor.{Cursor}
 use Rattle.iter.specs.Fill.{Filled, batch, fillIn}
 use Rattle.iter.proofs.Answers.{the-batch}
 use Rattle.words.specs.Ten.{cursorOf}
-use Rattle.export.specs.Walk.{stopOf, leftOf, outOf}
+use Rattle.steps.specs.Answers.{stopOf, leftOf}
+use Rattle.export.specs.Walk.{outOf}
 use Rattle.export.proofs.fen_fill.Statement.{statement}
 use Rattle.export.proofs.fen_fill.Tie as tie
 

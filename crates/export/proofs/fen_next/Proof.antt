@@ -8,8 +8,8 @@ use Rattle.iter.specs.declared.Step.{Step as Stepped}
 use Rattle.iter.specs.Calls.{nextIn}
 use Rattle.iter.proofs.Answers.{the-step}
 use Rattle.words.specs.Ten.{cursorOf}
-use Rattle.words.proofs.Quickly.{quick-some, quick-none, quick-next, quick-put}
-use Rattle.export.specs.Walk.{movedOf, wordsOf}
+use Rattle.quick.proofs.Quickly.{quick-some, quick-none, quick-next, quick-put}
+use Rattle.steps.specs.Answers.{movedOf, wordsOf}
 use Rattle.export.proofs.fen_next.Statement.{statement}
 use Rattle.export.proofs.fen_next.Tie as tie
 

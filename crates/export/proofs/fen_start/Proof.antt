@@ -6,7 +6,7 @@ use Rattle.iter.specs.declared.Step.{Step}
 use Rattle.iter.specs.Calls.{startIn}
 use Rattle.iter.proofs.Answers.{the-step}
 use Rattle.words.specs.Ten.{cursorOf}
-use Rattle.export.specs.Walk.{movedOf, wordsOf}
+use Rattle.steps.specs.Answers.{movedOf, wordsOf}
 use Rattle.export.proofs.fen_start.Statement.{statement}
 use Rattle.export.proofs.fen_start.Tie as tie
 

@@ -4,7 +4,7 @@ use Prim.Native.Nat.{_+_, _-_, _≤_, _<_}
 use native.Mathlib.Omega.{arith}
 use denote.Ref.{now}
 use lib.ListN.{length}
-use Rattle.text.proofs.Line.{goes-on}
+use Rattle.input.proofs.Line.{goes-on}
 use Rattle.replies.specs.Replies.{Good}
 use borrow.Author.Needs.{needs}
 use Rattle.listing.proofs.feed.Statement.{statement}
