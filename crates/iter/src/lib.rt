@@ -79,7 +79,7 @@ struct Sunk {
 }
 
 // The cursor above everything that stands below a top word.
-pub fn above(top: u64) -> Cursor
+fn above(top: u64) -> Cursor
     ensures { λ r. ⌜ r ≡ startAt 3 top ⌝ }
 {
     Cursor {
@@ -97,7 +97,7 @@ fn behind(p: u32, m: u64) -> usize
 
 impl Cursor {
     // Where the lowest bit of layer k's mask stands in its layer; the top layer has no prefix. Layers count modulo 4.
-    pub fn place(self, k: usize) -> usize
+    fn place(self, k: usize) -> usize
         ensures { λ r. ⌜ (r ≡ placeAt 3 self (k % 4)) × (0 < getD (self .masks) (k % 4) 0 → firstBit self (k % 4) < 64) ⌝ }
     {
         let masks = self.masks;
@@ -110,7 +110,7 @@ impl Cursor {
     }
 
     // The cursor once layer 0's lowest bit is handed out.
-    pub fn hand(self) -> Cursor
+    fn hand(self) -> Cursor
         ensures { λ r. ⌜ r ≡ handed self ⌝ }
     {
         let mut c = self;
@@ -120,7 +120,7 @@ impl Cursor {
     }
 
     // The lowest bit of the layer above layer j is taken, and the word below it, of layer j, is in hand. Layers count modulo 3.
-    pub fn handle_level(self, j: usize, word: u64) -> Cursor
+    fn handle_level(self, j: usize, word: u64) -> Cursor
         ensures { λ r. ⌜ r ≡ handled (j % 3) word self ⌝ }
     {
         let low = j % 3;
