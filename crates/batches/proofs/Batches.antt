@@ -11,13 +11,13 @@ use Rattle.store.specs.Layout.{top, cap, isStore}
 use Rattle.store.specs.Word.{word, Words64}
 use Rattle.store.proofs.Geometry.{store-is}
 use Rattle.store.proofs.Words.{word-lt}
-use Rattle.iter.specs.declared.Batch.{Batch}
+use Rattle.fill.specs.declared.Batch.{Batch}
 use Rattle.iter.specs.declared.Cursor.{Cursor}
 use Rattle.iter.specs.declared.Step.{Step}
-use Rattle.iter.specs.declared.Stop.{Stop}
-use Rattle.iter.specs.declared.Stop.the-variants.{Full, Paused, End}
+use Rattle.fill.specs.declared.Stop.{Stop}
+use Rattle.fill.specs.declared.Stop.the-variants.{Full, Paused, End}
 use Rattle.iter.specs.Calls.{Fine, startedOf}
-use Rattle.iter.specs.Fill.{Filled, batchPaper, batch, fillFrom, fillIn, fillOf}
+use Rattle.fill.specs.Fill.{Filled, batchPaper, batch, fillFrom, fillIn, fillOf}
 use Rattle.iter.specs.Walk.{startAt}
 use Rattle.iter.proofs.Answers.{start-is}
 use Rattle.demand.proofs.Taken.{Wf, start-wf, start-fine}

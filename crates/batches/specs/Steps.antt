@@ -4,8 +4,8 @@ use mathlib.Core.List.{List}
 use Prim.Native.Nat.{ℕ}
 use Rattle.store.specs.Layout.{top, cap}
 use Rattle.store.specs.Word.{word}
-use Rattle.iter.specs.declared.Stop.{Stop}
-use Rattle.iter.specs.declared.Stop.the-variants.{Full, Paused, End, Refused}
+use Rattle.fill.specs.declared.Stop.{Stop}
+use Rattle.fill.specs.declared.Stop.the-variants.{Full, Paused, End, Refused}
 use Rattle.demand.specs.Under.{allIds}
 
 -- every id that a walk of a store hands out, sound or not

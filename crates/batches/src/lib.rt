@@ -1,7 +1,7 @@
 // A walk of one store in batches of 64 ids: whether it goes on after one.
 ghost use mathlib.Core.Path.{_≡_};
 ghost use Rattle.batches.specs.Steps.{goesOn};
-use iter::Stop;
+use fill::Stop;
 
 // The largest budget of word reads; a walk that had spent it would go on with the next batch.
 pub const BUDGET: u64 = 18446744073709551615;

@@ -13,16 +13,16 @@ use Rattle.iter.specs.declared.Cursor.{Cursor}
 use Rattle.iter.specs.declared.Next.{Next}
 use Rattle.iter.specs.declared.Next.the-variants.{Member, Paused, End, Refused}
 use Rattle.iter.specs.declared.Step.{Step}
-use Rattle.iter.specs.declared.Stop.{Stop}
-use Rattle.iter.specs.declared.Stop.the-variants.{Full, Paused as StopPaused, End as StopEnd, Refused as StopRefused}
+use Rattle.fill.specs.declared.Stop.{Stop}
+use Rattle.fill.specs.declared.Stop.the-variants.{Full, Paused as StopPaused, End as StopEnd, Refused as StopRefused}
 use Rattle.iter.specs.Calls.{Fine, startIn}
-use Rattle.iter.specs.Fill.{Filled, goOn, fillFrom}
+use Rattle.fill.specs.Fill.{Filled, goOn, fillFrom}
 use Rattle.demand.specs.Under.{allIds, allReads}
 use Rattle.iter.specs.Walk.{startAt, next, Run}
 use Rattle.iter.proofs.Answers.{start-is}
 use Rattle.iter.proofs.Cursors.{fit-of}
 use Rattle.demand.proofs.Taken.{Wf, start-wf, start-fine}
-use Rattle.iter.proofs.Fills.{fill-runs}
+use Rattle.fill.proofs.Fills.{fill-runs}
 use Rattle.demand.proofs.Rest.{rest, cost, Moves, gone, Moved, moved-next, start-rest, start-cost}
 use Rattle.demand.specs.Fills.{Stopped, Ask, Some, Keeps, onward, fillsBy, AllStopped, fillAt, fillOn, fillsOn}
 use Rattle.demand.specs.Fills.Stopped.{full, paused, ended}

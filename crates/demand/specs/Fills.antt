@@ -4,10 +4,10 @@ use mathlib.Core.List.{List, [], _∷_, _++_}
 use Prim.Native.Nat.{ℕ, _+_, _≤_}
 use lib.ListN.{length}
 use Rattle.iter.specs.declared.Cursor.{Cursor}
-use Rattle.iter.specs.declared.Stop.{Stop}
-use Rattle.iter.specs.declared.Stop.the-variants.{Full, Paused, End, Refused}
+use Rattle.fill.specs.declared.Stop.{Stop}
+use Rattle.fill.specs.declared.Stop.the-variants.{Full, Paused, End, Refused}
 use Rattle.iter.specs.Calls.{startIn}
-use Rattle.iter.specs.Fill.{Filled, fillFrom, fillIn}
+use Rattle.fill.specs.Fill.{Filled, fillFrom, fillIn}
 use Rattle.iter.specs.Walk.{Run}
 
 -- a stop at budget b and m places, with the ids handed out and the reads: all places taken, or all of the budget spent, or the end; the

@@ -4,7 +4,7 @@ use Prim.Native.Nat.{ℕ}
 use lib.ListN.{length}
 use Rattle.iter.specs.declared.Step.{Step as Stepped}
 use Rattle.iter.specs.Calls.{startIn, nextIn}
-use Rattle.iter.specs.Fill.{Filled, filled, fillIn}
+use Rattle.fill.specs.Fill.{Filled, filled, fillIn}
 use Rattle.words.specs.Ten.{cursorOf}
 use Rattle.steps.specs.Answers.{stopOf, leftOf}
 use Rattle.steps.specs.declared.Step.{Step}

@@ -102,6 +102,6 @@ pub extern "C" fn fen_fill(
     ensures { λ r. ⌜ now (out .exit) ≡ outOf (filledOf (now (store .entry)) (now (cursor .entry)) budget (now (out .entry))) (now (out .entry)) ⌝ }
 {
     let c = words::taken(cursor);
-    let b = c.fill(store, budget, out);
+    let b = fill::fill(c, store, budget, out);
     steps::told_batch(cursor, b)
 }

@@ -13,11 +13,11 @@ use Rattle.util.specs.Outcome.{Outcome, Settled}
 use Rattle.desk.specs.Slots.{numberOf, spanOf, partOf, backOf}
 use Rattle.desk.specs.declared.Span.{Span}
 use Rattle.desk.proofs.Laws.{part-is, back-is}
-use Rattle.iter.specs.declared.Batch.{Batch}
+use Rattle.fill.specs.declared.Batch.{Batch}
 use Rattle.iter.specs.declared.Cursor.{Cursor}
-use Rattle.iter.specs.declared.Stop.{Stop}
-use Rattle.iter.specs.Fill.{batchPaper, fillIn, fillOf}
-use Rattle.iter.proofs.Answers.{the-batch}
+use Rattle.fill.specs.declared.Stop.{Stop}
+use Rattle.fill.specs.Fill.{batchPaper, fillIn, fillOf}
+use Rattle.fill.proofs.Fills.{the-batch}
 use Rattle.said.specs.Numbers.{unknown, Left, left}
 use Rattle.said.specs.declared.Said.{Said}
 use Rattle.cursors.specs.Cursors.{isCursor, lowOf, cursorOf, backAt}

@@ -7,9 +7,9 @@ use lib.Dec.{eqb}
 use lib.ListN.{length, getD}
 use lib.Seq.{sets}
 use Rattle.desk.specs.Slots.{numberOf, isSlot, partOf, backOf}
-use Rattle.iter.specs.declared.Stop.{Stop}
-use Rattle.iter.specs.declared.Stop.the-variants.{Full, Paused, End, Refused}
-use Rattle.iter.specs.Fill.{fillIn, fillOf}
+use Rattle.fill.specs.declared.Stop.{Stop}
+use Rattle.fill.specs.declared.Stop.the-variants.{Full, Paused, End, Refused}
+use Rattle.fill.specs.Fill.{fillIn, fillOf}
 use Rattle.said.specs.Numbers.{oneOf, unknown, Left, left}
 use Rattle.said.specs.declared.Said.{Said}
 use Rattle.cursors.specs.Cursors.{isCursor, lowOf, cursorOf, backAt, three}

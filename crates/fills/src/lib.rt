@@ -5,11 +5,11 @@ ghost use lib.Seq.{sets};
 ghost use Rattle.util.specs.Outcome.{Settled};
 ghost use Rattle.desk.specs.Slots.{partOf};
 ghost use Rattle.said.specs.Numbers.{left};
-ghost use Rattle.iter.specs.Fill.{batchPaper, fillOf};
+ghost use Rattle.fill.specs.Fill.{batchPaper, fillOf};
 ghost use Rattle.cursors.specs.Cursors.{cursorOf};
 ghost use Rattle.fills.specs.Calls.{placesOf, lowsOf, outAt, toldOf, fillAt, fitsOf, changeOf};
-use iter::Batch;
-use iter::Stop;
+use fill::Batch;
+use fill::Stop;
 use said::Said;
 
 // The command word, a letter a byte, the first the highest.
@@ -67,7 +67,7 @@ fn batch(desk: &[u64], c: u64, s: u64, budget: u64, d: u64, out: &mut [u32]) -> 
 {
     load(desk::part(desk, d), out);
     let k = cursors::take(desk, c);
-    k.fill(desk::part(desk, s), budget, out)
+    fill::fill(k, desk::part(desk, s), budget, out)
 }
 
 // What a fill says: the refusal's number alone, or why it stopped, the number of ids and the reads.

@@ -15,22 +15,17 @@ use Rattle.store.proofs.Ends.{some-store, no-store}
 use Rattle.store.proofs.Geometry.{is-store, end-top, room-falls}
 use Rattle.store.proofs.Words.{word-in}
 use Rattle.layers.specs.Calls.{layerPart}
-use Rattle.iter.specs.declared.Batch.{Batch}
 use Rattle.iter.specs.declared.Cursor.{Cursor}
 use Rattle.iter.specs.declared.Next.the-variants.{Paused}
 use Rattle.iter.specs.declared.Step.{Step}
 use Rattle.iter.specs.Calls.{stepPaper, written, refused, fits, startIn, nextIn}
-use Rattle.iter.specs.Fill.{Filled, batch, batchPaper, filled}
 use Rattle.iter.specs.Steps.{refusalOf, parts}
 use Rattle.iter.specs.Walk.{startAt, next}
 use Rattle.iter.proofs.Turns.{next-same}
 
--- a step or a batch that meets a call's promise is the definition's: the paper reads it back
+-- a step that meets a call's promise is the definition's: the paper reads it back
 pub the-step : (a : Step) {r : Step} → Settled stepPaper (written a) r tt → r ≡ a
 the-step a h = settles h (record { answer = refl; memory = refl }) .0
-
-pub the-batch : (f : Filled) (out : List ℕ) {r : Batch} {x : List ℕ} → Settled batchPaper (filled f out) r x → r ≡ batch f
-the-batch f out h = settles h (record { answer = refl; memory = refl }) .0
 
 -- a step that the definition answers
 pub answered : {a r : Step} → r ≡ a → Settled stepPaper (written a) r tt
@@ -93,7 +88,7 @@ module _ {N : ℕ} {s : List ℕ} (z : StoreOf N s) (c : Cursor) where
   unfolding nextIn
   next-runs b h = sym (rw (is-store z, z .names, h))
 
-  -- next and fill over the layers that are lent on
+  -- next over the layers that are lent on
   pub next-lent : {l2 l1 l0 : List ℕ} → l2 ≡ layerPart s 2 → l1 ≡ layerPart s 1 → l0 ≡ layerPart s 0 → fits 3 c ≡ true → (b : ℕ)
       → next (parts (l0 ∷ l1 ∷ l2 ∷ [])) 3 b c ≡ nextIn s c b
   unfolding top

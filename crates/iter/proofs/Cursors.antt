@@ -15,7 +15,7 @@ use Rattle.util.proofs.Places.{lowest}
 use Rattle.util.proofs.Same.{both}
 use Rattle.iter.specs.declared.Cursor.{Cursor}
 use Rattle.iter.specs.Calls.{prefixesFit, Fine}
-use Rattle.iter.specs.Steps.{isReading, Descended}
+use Rattle.iter.specs.Steps.{isReading, Descended, lowered, Lowers}
 use Rattle.iter.specs.Walk.{lowFrom, lowLayer, kindOf, kind, firstBit, prefixAt, placeAt, taken, handled}
 use Rattle.iter.specs.Walk.Kind.{gives, reads, done}
 
@@ -158,10 +158,13 @@ fine-place t ps k b f h l =
     (place-lt (getD ps k 0) b (t - k) (f k q .0) (subst (λ (x : ℕ). getD ps k 0 < 64 ^ x) e (f k q .1)) l)))
     (eq-or-lt-of-le h)
 
--- an id has 32 bits
-pub id-small : (c : Cursor) {q : ℕ} → Fine 3 (c .prefix) → getD (c .masks) 0 0 ≢ 0 → (q ≡ placeAt 3 c 0) × (0 < getD (c .masks) 0 0 → firstBit c 0 < 64) → q < 4294967296
+-- an id has 32 bits, so that nothing is cut off it
+pub id-small : (c : Cursor) → Fine 3 (c .prefix) → getD (c .masks) 0 0 ≢ 0 → (0 < getD (c .masks) 0 0 → firstBit c 0 < 64) → placeAt 3 c 0 < 4294967296
 unfolding placeAt
-id-small c f some placed = omega (arith, placed .0, fine-place 3 (c .prefix) 0 (firstBit c 0) f (omega arith) (placed .1 (omega (arith, some))))
+id-small c f some b = omega (arith, fine-place 3 (c .prefix) 0 (firstBit c 0) f (omega arith) (b (omega (arith, some))))
+
+pub id-cut : (c : Cursor) → Fine 3 (c .prefix) → getD (c .masks) 0 0 ≢ 0 → (0 < getD (c .masks) 0 0 → firstBit c 0 < 64) → placeAt 3 c 0 % 4294967296 ≡ placeAt 3 c 0
+id-cut c f some b = omega (arith, id-small c f some b)
 
 -- a place makes a fine prefix of the layer below
 prefix-lt : (q n : ℕ) → q < 64 ^ n → (q * 64 % 64 ≡ 0) × (q * 64 < 64 ^ suc n)
@@ -197,23 +200,31 @@ handled-is c j w f h b =
     ap (λ (x : ℕ). taken c j x w) e
 
 -- the word below the lowest bit of layer j + 1 read, as the code does it
-pub descended : {c d : Cursor} {j q w : ℕ} (layer : List ℕ) → Fine 3 (c .prefix) → j < 3 → 0 < getD (c .masks) (j + 1) 0
+pub lowers : {c d : Cursor} {j q w : ℕ} (lw : ℕ → ℕ → ℕ) → j < 3 → 0 < getD (c .masks) (j + 1) 0
     → (q ≡ placeAt 3 c ((j + 1) % 4)) × (0 < getD (c .masks) ((j + 1) % 4) 0 → firstBit c ((j + 1) % 4) < 64)
-    → w ≡ getD layer q 0 → d ≡ handled (j % 3) w c → Descended (λ (k i : ℕ). getD layer i 0) 3 j c d
-descended {c} {d} {j} {q} {w} layer f h some placed w-is d-is =
+    → w ≡ lw j q → d ≡ handled (j % 3) w c → Lowers lw j c d
+lowers {c} {d} {j} {q} {w} lw h some placed w-is d-is =
     let m : (j + 1) % 4 ≡ suc j = omega arith in
     let o : j % 3 ≡ j = omega arith in
     let e : j + 1 ≡ suc j = omega arith in
     let b : firstBit c (suc j) < 64 =
     subst (λ (k : ℕ). 0 < getD (c .masks) k 0 → firstBit c k < 64) m (placed .1) (subst (λ (k : ℕ). 0 < getD (c .masks) k 0) e some) in
     let q-is : q ≡ placeAt 3 c (suc j) = placed .0 ∙ ap (placeAt 3 c) m in
-    let is : d ≡ taken c j (placeAt 3 c (suc j)) (getD layer (placeAt 3 c (suc j)) 0) =
-    d-is ∙ ap (λ (k : ℕ). handled k w c) o ∙ handled-is c j w f h b ∙ ap (taken c j (placeAt 3 c (suc j))) (w-is ∙ ap (λ (x : ℕ). getD layer x 0) q-is) in
+    let here : d ≡ lowered lw j c = d-is ∙ ap₂ (λ (k x : ℕ). handled k x c) o (w-is ∙ ap (lw j) q-is) in
+    let v = lw j (placeAt 3 c (suc j)) in
     record {
-      cursor = is;
-      fine = subst (λ (x : Cursor). Fine 3 (x .prefix)) (sym is) (fine-taken 3 c j (getD layer (placeAt 3 c (suc j)) 0) f h b);
+      is = here;
+      down = λ f.
+          let is = here ∙ handled-is c j v f h b in
+          record { cursor = is; fine = subst (λ (x : Cursor). Fine 3 (x .prefix)) (sym is) (fine-taken 3 c j v f h b) };
     }
 
 -- the same by the lowest layer
-pub descended-at : {lw : ℕ → ℕ → ℕ} {t j : ℕ} {c d : Cursor} → lowLayer t c ≡ suc j → Descended lw t j c d → Descended lw t (lowLayer t c - 1) c d
-descended-at {lw} {t} {j} {c} {d} e h = let i : j ≡ lowLayer t c - 1 = omega (arith, e) in subst (λ (k : ℕ). Descended lw t k c d) i h
+pub lowers-at : {lw lw′ : ℕ → ℕ → ℕ} {j : ℕ} {c d : Cursor} → lowLayer 3 c ≡ suc j → ((i : ℕ) → lw j i ≡ lw′ j i) → Lowers lw j c d → Lowers lw′ (lowLayer 3 c - 1) c d
+lowers-at {lw} {lw′} {j} {c} {d} e same h =
+    let i : j ≡ lowLayer 3 c - 1 = omega (arith, e) in
+    let v : lw j (placeAt 3 c (suc j)) ≡ lw′ j (placeAt 3 c (suc j)) = same (placeAt 3 c (suc j)) in
+    subst (λ (k : ℕ). Lowers lw′ k c d) i (record {
+      is = h .is ∙ ap (λ (x : ℕ). handled j x c) v;
+      down = λ f. record { cursor = h .down f .cursor ∙ ap (taken c j (placeAt 3 c (suc j))) v; fine = h .down f .fine };
+    })

@@ -1,4 +1,3 @@
 pub mod Cursors
 pub mod Turns
 pub mod Answers
-pub mod Fills

@@ -1,17 +1,16 @@
 -- What the private steps ask and leave.
 use mathlib.Core.Bool.{Bool, true, false, cond}
-use mathlib.Core.List.{List, [], _∷_, _++_}
+use mathlib.Core.List.{List, []}
 use mathlib.Core.Path.{_≡_}
-use Prim.Native.Nat.{ℕ, _-_, _≤_}
+use Prim.Native.Nat.{ℕ, zero, suc, _-_, _%_, _≤_}
 use lib.Dec.{eqb}
-use lib.ListN.{length, getD, drop}
+use lib.ListN.{getD}
 use Rattle.iter.specs.declared.Cursor.{Cursor}
-use Rattle.iter.specs.declared.Stop.{Stop}
-use Rattle.iter.specs.declared.Stop.the-variants.{Paused as StopPaused, End as StopEnd}
+use Rattle.iter.specs.declared.Next.the-variants.{Member, Paused, End}
+use Rattle.iter.specs.declared.Step.{Step}
 use Rattle.iter.specs.declared.Sunk.{Sunk}
 use Rattle.iter.specs.Calls.{Fine}
-use Rattle.iter.specs.Fill.{after, fillFrom}
-use Rattle.iter.specs.Walk.{Kind, kind, more, descend, next}
+use Rattle.iter.specs.Walk.{Kind, lowLayer, kind, placeAt, handed, handled, more, descend, next}
 use Rattle.iter.specs.Walk.Kind.{gives, reads, done}
 
 -- "All else 2 .., then rising": by the capacity, 0 where there is no store, and whether the prefixes fit
@@ -27,12 +26,6 @@ abbrev pub isReading : Kind → Bool
 isReading gives = false
 isReading (reads j) = true
 isReading done = false
-
--- why no member is at hand
-abbrev pub restOf : Kind → Stop
-restOf gives = StopEnd
-restOf (reads j) = StopPaused
-restOf done = StopEnd
 
 -- the lowest bit of layer j + 1 was taken, and the word below it read
 pub record Descended (lw : ℕ → ℕ → ℕ) (t j : ℕ) (c d : Cursor) : Type 0 where
@@ -51,13 +44,37 @@ pub record Sank (lw : ℕ → ℕ → ℕ) (b r₀ : ℕ) (c : Cursor) (d : Sunk
   pub going : Going lw 3 b r₀ c (d .cursor) (d .reads)
   pub stopped : isReading (kind 3 (d .cursor)) ≡ true → d .reads ≡ b
 
--- After k members and r reads, with `out` for out₀: what the fill must hand out is what stands in `out` and what is left to it.
-pub record Filling (lw : ℕ → ℕ → ℕ) (t b : ℕ) (c₀ : Cursor) (out₀ : List ℕ) (c : Cursor) (r k : ℕ) (out : List ℕ) : Type 0 where
-  pub spent : r ≤ b
-  pub fine : Fine t (c .prefix)
-  pub long : length out ≡ length out₀
-  pub ids : List ℕ
-  pub counted : length ids ≡ k
-  pub inside : k ≤ length out₀
-  pub here : out ≡ ids ++ drop k out₀
-  pub same : fillFrom lw t (length out₀) b c₀ ≡ after ids r (fillFrom lw t (length out₀ - k) (b - r) c)
+-- ---- the same for every cursor, its prefixes fine or not
+
+-- the lowest bit of layer j + 1 is taken, and the word below it read
+abbrev pub lowered : (ℕ → ℕ → ℕ) → ℕ → Cursor → Cursor
+lowered lw j c = handled j (lw j (placeAt 3 c (suc j))) c
+
+-- with what it is where they are fine
+pub record Lowers (lw : ℕ → ℕ → ℕ) (j : ℕ) (c d : Cursor) : Type 0 where
+  pub is : d ≡ lowered lw j c
+  pub down : Fine 3 (c .prefix) → Descended lw 3 j c d
+
+-- after r reads: so many words more are read, or as many as are wanted
+unfoldable pub sunk : (ℕ → ℕ → ℕ) → ℕ → ℕ → Cursor → Sunk
+sunk lw zero r c = record { cursor = c; reads = r }
+sunk lw (suc b) r c =
+    let d = sunk lw b (suc r) (lowered lw (lowLayer 3 c - 1) c) in
+    cond (isReading (kind 3 c)) d (record { cursor = c; reads = r })
+
+pub record Sinks (lw : ℕ → ℕ → ℕ) (b r₀ : ℕ) (c : Cursor) (d : Sunk) : Type 0 where
+  pub is : d ≡ sunk lw (b - r₀) r₀ c
+  pub sank : Fine 3 (c .prefix) → r₀ ≤ b → Sank lw b r₀ c d
+
+-- what is answered after r reads where no word is read any more
+abbrev pub finishedBy : ℕ → Cursor → Kind → Step
+finishedBy r c gives = record { cursor = handed c; reads = r; answer = Member (placeAt 3 c 0 % 4294967296) }
+finishedBy r c (reads j) = record { cursor = c; reads = r; answer = Paused }
+finishedBy r c done = record { cursor = c; reads = r; answer = End }
+
+abbrev pub finished : ℕ → Cursor → Step
+finished r c = finishedBy r c (kind 3 c)
+
+pub record Finishes (r : ℕ) (c : Cursor) (a : Step) : Type 0 where
+  pub is : a ≡ finished r c
+  pub same : Fine 3 (c .prefix) → a ≡ more r (next (λ (k i : ℕ). 0) 3 0 c)

@@ -8,9 +8,8 @@ ghost use lib.Dec.{eqb, ltb};
 ghost use lib.ListN.{length, getD};
 ghost use Rattle.util.specs.Outcome.{Settled};
 ghost use Rattle.iter.specs.Calls.{stepPaper, startOf, nextOf, startedOf, prefixesFit, fits, Fine};
-ghost use Rattle.iter.specs.Fill.{fillFrom, batchPaper, filled, fillOf};
-ghost use Rattle.iter.specs.Steps.{refusalOf, parts, isReading, restOf, Descended, Sank};
-ghost use Rattle.iter.specs.Walk.{lowLayer, kind, firstBit, placeAt, handed, handled, more, startAt, next};
+ghost use Rattle.iter.specs.Steps.{refusalOf, parts, isReading, Lowers, Sinks, Finishes};
+ghost use Rattle.iter.specs.Walk.{lowLayer, kind, firstBit, placeAt, handed, handled, startAt, next};
 
 // Layer k's mask and prefix stand at place k; the top layer has no prefix.
 pub struct Cursor {
@@ -31,22 +30,6 @@ pub struct Step {
     pub cursor: Cursor,
     pub reads: u64,
     pub answer: Next,
-}
-
-// Why a fill stopped: the places were full, or as next.
-pub enum Stop {
-    Full,
-    Paused,
-    End,
-    Refused(u32),
-}
-
-// The changed cursor, the words read by this call, the members handed out, and why no more were.
-pub struct Batch {
-    pub cursor: Cursor,
-    pub reads: u64,
-    pub count: usize,
-    pub stop: Stop,
 }
 
 // Whether a number is a prefix below a bound.
@@ -73,9 +56,9 @@ pub fn are_prefixes(p0: u64, p1: u64, p2: u64) -> bool
 }
 
 // A cursor, and the words that were read on the way to it.
-struct Sunk {
-    cursor: Cursor,
-    reads: u64,
+pub struct Sunk {
+    pub cursor: Cursor,
+    pub reads: u64,
 }
 
 // The cursor above everything that stands below a top word.
@@ -97,7 +80,7 @@ fn behind(p: u32, m: u64) -> usize
 
 impl Cursor {
     // Where the lowest bit of layer k's mask stands in its layer; the top layer has no prefix. Layers count modulo 4.
-    fn place(self, k: usize) -> usize
+    pub fn place(self, k: usize) -> usize
         ensures { λ r. ⌜ (r ≡ placeAt 3 self (k % 4)) × (0 < getD (self .masks) (k % 4) 0 → firstBit self (k % 4) < 64) ⌝ }
     {
         let masks = self.masks;
@@ -110,7 +93,7 @@ impl Cursor {
     }
 
     // The cursor once layer 0's lowest bit is handed out.
-    fn hand(self) -> Cursor
+    pub fn hand(self) -> Cursor
         ensures { λ r. ⌜ r ≡ handed self ⌝ }
     {
         let mut c = self;
@@ -120,7 +103,7 @@ impl Cursor {
     }
 
     // The lowest bit of the layer above layer j is taken, and the word below it, of layer j, is in hand. Layers count modulo 3.
-    fn handle_level(self, j: usize, word: u64) -> Cursor
+    pub fn handle_level(self, j: usize, word: u64) -> Cursor
         ensures { λ r. ⌜ r ≡ handled (j % 3) word self ⌝ }
     {
         let low = j % 3;
@@ -136,15 +119,15 @@ impl Cursor {
 
     // The word below the lowest bit of the layer above layer j is read.
     fn read(self, layer: &[u64], j: usize) -> Cursor
-        requires { ⌜ (Fine 3 (self .prefix)) × (j < 3) × (0 < getD (self .masks) (j + 1) 0) ⌝ }
-        ensures { λ r. ⌜ Descended (λ (k i : ℕ). getD (now (layer .entry)) i 0) 3 j self r ⌝ }
+        requires { ⌜ (j < 3) × (0 < getD (self .masks) (j + 1) 0) ⌝ }
+        ensures { λ r. ⌜ Lowers (λ (k i : ℕ). getD (now (layer .entry)) i 0) j self r ⌝ }
     {
         let q = self.place(j + 1);
         self.handle_level(j, store::get(layer, q))
     }
 
     // Whether a word has to be read before the next member.
-    fn wants(self) -> bool
+    pub fn wants(self) -> bool
         ensures { λ r. ⌜ r ≡ isReading (kind 3 self) ⌝ }
     {
         let masks = self.masks;
@@ -162,8 +145,8 @@ impl Cursor {
 
     // One word is read. Each layer has a way of its own, so that the masks stay in registers.
     fn down(self, l2: &[u64], l1: &[u64], l0: &[u64]) -> Cursor
-        requires { ⌜ (Fine 3 (self .prefix)) × (isReading (kind 3 self) ≡ true) ⌝ }
-        ensures { λ r. ⌜ Descended (parts (now (l0 .entry) ∷ now (l1 .entry) ∷ now (l2 .entry) ∷ [])) 3 (lowLayer 3 self - 1) self r ⌝ }
+        requires { ⌜ isReading (kind 3 self) ≡ true ⌝ }
+        ensures { λ r. ⌜ Lowers (parts (now (l0 .entry) ∷ now (l1 .entry) ∷ now (l2 .entry) ∷ [])) (lowLayer 3 self - 1) self r ⌝ }
     {
         let masks = self.masks;
         if masks[1] != 0 {
@@ -175,15 +158,14 @@ impl Cursor {
         self.read(l2, 2)
     }
 
-    // After so many reads, words are read until none is wanted or the budget is spent.
-    fn sink(self, l2: &[u64], l1: &[u64], l0: &[u64], spent: u64, budget: u64) -> Sunk
-        requires { ⌜ (Fine 3 (self .prefix)) × (spent ≤ budget) ⌝ }
-        ensures { λ r. ⌜ Sank (parts (now (l0 .entry) ∷ now (l1 .entry) ∷ now (l2 .entry) ∷ [])) budget spent self r ⌝ }
+    // After so many reads, words of three layers are read until none is wanted or the budget is spent.
+    pub fn sink(self, l2: &[u64], l1: &[u64], l0: &[u64], spent: u64, budget: u64) -> Sunk
+        ensures { λ r. ⌜ Sinks (parts (now (l0 .entry) ∷ now (l1 .entry) ∷ now (l2 .entry) ∷ [])) budget spent self r ⌝ }
     {
         let mut c = self;
         let mut reads = spent;
         while c.wants() {
-            if reads == budget {
+            if budget <= reads {
                 break;
             }
             c = c.down(l2, l1, l0);
@@ -204,7 +186,7 @@ impl Cursor {
     }
 
     // The refusal of a walk on a store of n ids, none being no store; or 0.
-    fn refusal(self, n: usize) -> u32
+    pub fn refusal(self, n: usize) -> u32
         ensures { λ r. ⌜ r ≡ refusalOf n (fits 3 self) ⌝ }
     {
         if n == 0 {
@@ -218,14 +200,13 @@ impl Cursor {
         }
     }
 
-    // What next answers where no word is read any more.
-    fn finish(self, reads: u64) -> Step
-        requires { ⌜ Fine 3 (self .prefix) ⌝ }
-        ensures { λ r. ⌜ r ≡ more reads (next (λ (k i : ℕ). 0) 3 0 self) ⌝ }
+    // What next answers where no word is read any more, after so many reads. An id has 32 bits.
+    pub fn finish(self, reads: u64) -> Step
+        ensures { λ r. ⌜ Finishes reads self r ⌝ }
     {
         let masks = self.masks;
         if masks[0] != 0 {
-            let id = self.place(0) as u32;
+            let id = (self.place(0) % 4294967296) as u32;
             let d = self.hand();
             return d.step(reads, Next::Member(id));
         }
@@ -270,68 +251,6 @@ impl Cursor {
             layers::layer1_as_slice(store),
             layers::layer0_as_slice(store),
             budget,
-        )
-    }
-
-    // A batch that leaves this cursor.
-    fn batch(self, reads: u64, count: usize, stop: Stop) -> Batch
-        ensures { λ r. ⌜ r ≡ record { cursor = self; reads = reads; count = count; stop = stop } ⌝ }
-    {
-        Batch {
-            cursor: self,
-            reads,
-            count,
-            stop,
-        }
-    }
-
-    // Why no member is at hand.
-    fn rest(self, reads: u64, count: usize) -> Batch
-        ensures { λ r. ⌜ r ≡ record { cursor = self; reads = reads; count = count; stop = restOf (kind 3 self) } ⌝ }
-    {
-        if self.wants() {
-            return self.batch(reads, count, Stop::Paused);
-        }
-        self.batch(reads, count, Stop::End)
-    }
-
-    // Fill over three layers, where nothing is refused.
-    fn fill_in(self, l2: &[u64], l1: &[u64], l0: &[u64], budget: u64, out: &mut [u32]) -> Batch
-        requires { ⌜ Fine 3 (self .prefix) ⌝ }
-        ensures { λ r. ⌜ Settled batchPaper (filled (fillFrom (parts (now (l0 .entry) ∷ now (l1 .entry) ∷ now (l2 .entry) ∷ [])) 3 (length (now (out .entry))) budget self) (now (out .entry))) r (now (out .exit)) ⌝ }
-    {
-        let mut c = self;
-        let mut spent = 0u64;
-        let mut count = 0usize;
-        while count < out.len() {
-            let d = c.sink(l2, l1, l0, spent, budget);
-            c = d.cursor;
-            spent = d.reads;
-            if c.masks[0] == 0 {
-                return c.rest(spent, count);
-            }
-            out[count] = c.place(0) as u32;
-            c = c.hand();
-            count += 1;
-        }
-        c.batch(spent, count, Stop::Full)
-    }
-
-    // As many members as `out` holds or the budget allows: what that many calls of next do, with the tests made once.
-    pub fn fill(self, store: &[u64], budget: u64, out: &mut [u32]) -> Batch
-        ensures { λ r. ⌜ Settled batchPaper (fillOf (now (store .entry)) self budget (now (out .entry))) r (now (out .exit)) ⌝ }
-    {
-        let n = store::capacity(store);
-        let no = self.refusal(n);
-        if no != 0 {
-            return self.batch(0, 0, Stop::Refused(no));
-        }
-        self.fill_in(
-            layers::layer2_as_slice(store),
-            layers::layer1_as_slice(store),
-            layers::layer0_as_slice(store),
-            budget,
-            out,
         )
     }
 }

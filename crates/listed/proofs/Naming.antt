@@ -9,7 +9,7 @@ use lib.ListN.{length, take, drop, getD}
 use lib.Seq.{drop-cons, drop-length}
 use Rattle.store.specs.Layout.{isStore}
 use Rattle.store.specs.Word.{Words64}
-use Rattle.iter.specs.declared.Batch.{Batch}
+use Rattle.fill.specs.declared.Batch.{Batch}
 use Rattle.iter.specs.declared.Cursor.{Cursor}
 use Rattle.iter.specs.Calls.{startedOf}
 use Rattle.text.specs.Out.{Held, held, putOf, putAllOf, decimalOf}

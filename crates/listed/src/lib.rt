@@ -37,7 +37,7 @@ fn put_walked(buf: &mut [u8], at: usize, store: &[u64]) -> usize
     let mut c = iter::started(store);
     let mut a = at;
     loop {
-        let b = c.fill(store, batches::BUDGET, &mut ids);
+        let b = fill::fill(c, store, batches::BUDGET, &mut ids);
         let n = b.count;
         a = put_ids(buf, a, &ids[..n]);
         let stop = b.stop;

@@ -1,8 +1,8 @@
 // What a call of the walk says to a caller in C, and what it leaves in the ten words of its cursor.
 ghost use mathlib.Core.Path.{_≡_};
 ghost use Rattle.steps.specs.Answers.{stepOf, stopOf, leftOf, movedOf, wordsOf};
+use fill::Stop;
 use iter::Next;
-use iter::Stop;
 
 // What a call of the walk says: 0 and the refusal's number; 1 and the member, or full and how many members; 2 paused; 3 the end.
 #[repr(C)]
@@ -67,7 +67,7 @@ pub fn told_step(words: &mut [u64; 10], s: iter::Step) -> Step
 }
 
 // The same of a batch.
-pub fn told_batch(words: &mut [u64; 10], b: iter::Batch) -> Step
+pub fn told_batch(words: &mut [u64; 10], b: fill::Batch) -> Step
     ensures { λ r. ⌜ r ≡ stopOf (b .stop) (b .count) ⌝ }
     ensures { λ r. ⌜ now (words .exit) ≡ leftOf (stopOf (b .stop) (b .count)) (now (words .entry)) (b .cursor) (b .reads) ⌝ }
 {

@@ -6,7 +6,7 @@ use Prim.Native.Nat.{ℕ}
 use lib.ListN.{length, take}
 use Rattle.store.specs.Layout.{isStore}
 use Rattle.store.specs.Word.{Words64}
-use Rattle.iter.specs.declared.Batch.{Batch}
+use Rattle.fill.specs.declared.Batch.{Batch}
 use Rattle.iter.specs.declared.Cursor.{Cursor}
 use Rattle.iter.specs.Calls.{startedOf}
 use Rattle.batches.specs.Steps.{walked, goesOn}

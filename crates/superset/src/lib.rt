@@ -42,7 +42,7 @@ fn all_walked(store: &[u64], other: &[u64]) -> bool
     let mut ids = [0u32; 64];
     let mut c = iter::started(other);
     loop {
-        let b = c.fill(other, batches::BUDGET, &mut ids);
+        let b = fill::fill(c, other, batches::BUDGET, &mut ids);
         let n = b.count;
         if !all_held(store, &ids[..n]) {
             return false;

@@ -4,10 +4,10 @@ use mathlib.Core.Path.{_≡_, ap, _∙_}
 use Prim.Native.Nat.{ℕ}
 use borrow.Author.Needs.{needs}
 use lib.ListN.{length}
-use Rattle.iter.specs.declared.Batch.{Batch}
+use Rattle.fill.specs.declared.Batch.{Batch}
 use Rattle.iter.specs.declared.Cursor.{Cursor}
-use Rattle.iter.specs.Fill.{Filled, batch, fillIn}
-use Rattle.iter.proofs.Answers.{the-batch}
+use Rattle.fill.specs.Fill.{Filled, batch, fillIn}
+use Rattle.fill.proofs.Fills.{the-batch}
 use Rattle.words.specs.Ten.{cursorOf}
 use Rattle.steps.specs.Answers.{stopOf, leftOf}
 use Rattle.export.specs.Walk.{outOf}

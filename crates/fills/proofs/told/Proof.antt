@@ -1,6 +1,6 @@
 -- `fills::told` meets its contract. Assumes nothing.
 use mathlib.Core.Path.{sym, ap, _∙_}
-use Rattle.iter.specs.declared.Stop.{Stop}
+use Rattle.fill.specs.declared.Stop.{Stop}
 use Rattle.fills.specs.Calls.{toldOf}
 use borrow.Author.Needs.{needs}
 use Rattle.fills.proofs.told.Statement.{statement}

@@ -1,7 +1,7 @@
 -- `steps::stopped` meets its contract. Assumes nothing.
 use mathlib.Core.Path.{sym, ap}
 use borrow.Author.Needs.{needs}
-use Rattle.iter.specs.declared.Stop.{Stop}
+use Rattle.fill.specs.declared.Stop.{Stop}
 use Rattle.steps.specs.Answers.{stopOf}
 use Rattle.steps.proofs.stopped.Statement.{statement}
 use Rattle.steps.proofs.stopped.Tie as tie

@@ -1,15 +1,15 @@
--- `iter::Cursor::fill` meets its contract. Assumes nothing.
+-- `fill::fill` meets its contract. Assumes nothing.
 use mathlib.Core.Bool.{true}
 use mathlib.Core.Path.{_≡_}
 use lib.ListN.{length}
 use Rattle.store.specs.Layout.{StoreOf}
 use Rattle.iter.specs.Calls.{fits}
 use Rattle.iter.proofs.Answers.{was-taken}
 use Rattle.iter.proofs.Cursors.{fine-of}
-use Rattle.iter.proofs.Fills.{fill-refused, fill-lent, fill-answered}
+use Rattle.fill.proofs.Fills.{fill-refused, fill-lent, fill-answered}
 use borrow.Author.Needs.{needs}
-use Rattle.iter.proofs.Cursor.fill.Statement.{statement}
-use Rattle.iter.proofs.Cursor.fill.Tie as tie
+use Rattle.fill.proofs.fill.Statement.{statement}
+use Rattle.fill.proofs.fill.Tie as tie
 
 capacity-requires : tie.Need-capacity-requires
 capacity-requires c κs = search needs
@@ -17,24 +17,24 @@ capacity-requires c κs = search needs
 refusal-requires : tie.Need-refusal-requires
 refusal-requires c κs = search needs
 
-batch-requires : tie.Need-batch-requires
-batch-requires c κs = search needs
+made-requires : tie.Need-made-requires
+made-requires c κs = search needs
 
 returns : tie.Need-returns
 returns c =
     let r = c .before .before in
     let k = r .before in
     let a = k .before .before .before .args in
-    fill-refused (a .store .now) (a .self) (a .budget) (a .out .now) (k .capacity .ensures) (r .refusal .ensures) (c .before .if1 .taken) (c .batch .ensures)
+    fill-refused (a .store .now) (a .c) (a .budget) (a .out .now) (k .capacity .ensures) (r .refusal .ensures) (c .before .if1 .taken) (c .made .ensures)
 
 -- past the refusals the slice is a store and the prefixes fit
 taken-here : (c : tie.Else1)
-    → let k = c .before .before in StoreOf (k .capacity .result) (k .before .before .before .args .store .now) × (fits 3 (k .before .before .before .args .self) ≡ true)
+    → let k = c .before .before in StoreOf (k .capacity .result) (k .before .before .before .args .store .now) × (fits 3 (k .before .before .before .args .c) ≡ true)
 taken-here c =
     let r = c .before in
     let k = r .before in
     let a = k .before .before .before .args in
-    was-taken (a .store .now) (a .self) (k .capacity .ensures) (r .refusal .ensures) (c .if1 .left)
+    was-taken (a .store .now) (a .c) (k .capacity .ensures) (r .refusal .ensures) (c .if1 .left)
 
 layer2-as-slice-requires : tie.Need-layer2-as-slice-requires
 layer2-as-slice-requires c κs = search needs
@@ -60,7 +60,7 @@ returns-2 c =
     let h = taken-here (l2 .before) in
     let a = l2 .before .before .before .before .before .before .args in
     fill-answered (a .out .now)
-    (fill-lent (h .0) (a .self) (l2 .layer2-as-slice .ensures) (l1 .layer1-as-slice .ensures) (l0 .layer0-as-slice .ensures) (h .1) (a .budget) (length (a .out .now)))
+    (fill-lent (h .0) (a .c) (l2 .layer2-as-slice .ensures) (l1 .layer1-as-slice .ensures) (l0 .layer0-as-slice .ensures) (h .1) (a .budget) (length (a .out .now)))
     (f .fill-in .ensures)
 
 pub fill-spec : {M : Type 1} → statement M
@@ -69,7 +69,7 @@ fill-spec =
     (tie.spec
     capacity-requires
     refusal-requires
-    batch-requires
+    made-requires
     returns
     layer2-as-slice-requires
     layer1-as-slice-requires

@@ -8,26 +8,27 @@ use native.Mathlib.Nat.{add-assoc, add-zero, zero-add}
 use native.Mathlib.Omega.{arith}
 use lib.ListN.{length, getD, set, drop, length-append, length-set}
 use lib.Seq.{drop-cons, set-at}
-use Rattle.util.specs.Outcome.{Outcome, Settled, settled}
+use Rattle.util.specs.Outcome.{Outcome, Settled, settled, settles}
 use Rattle.store.specs.Layout.{top, cap, isStore, capacityOf, StoreOf}
 use Rattle.store.specs.Word.{word}
 use Rattle.store.proofs.Geometry.{is-store}
 use Rattle.layers.specs.Calls.{layerPart}
-use Rattle.iter.specs.declared.Batch.{Batch}
+use Rattle.fill.specs.declared.Batch.{Batch}
 use Rattle.iter.specs.declared.Cursor.{Cursor}
 use Rattle.iter.specs.declared.Next.{Next}
 use Rattle.iter.specs.declared.Next.the-variants.{Member, Paused, End, Refused}
 use Rattle.iter.specs.declared.Step.{Step}
-use Rattle.iter.specs.declared.Stop.{Stop}
-use Rattle.iter.specs.declared.Stop.the-variants.{Full, Paused as StopPaused, End as StopEnd, Refused as StopRefused}
+use Rattle.fill.specs.declared.Stop.{Stop}
+use Rattle.fill.specs.declared.Stop.the-variants.{Full, Paused as StopPaused, End as StopEnd, Refused as StopRefused}
 use Rattle.iter.specs.Calls.{Fine, fits}
-use Rattle.iter.specs.Fill.{Filled, after, stopped, goOn, fillFrom, batchPaper, filled, fillIn}
-use Rattle.iter.specs.Steps.{refusalOf, parts, isReading, restOf, Going, Filling}
+use Rattle.fill.specs.Fill.{Filled, after, stopped, goOn, fillFrom, restOf, batch, batchPaper, filled, fillIn}
+use Rattle.fill.specs.Steps.{Filling}
+use Rattle.iter.specs.Steps.{refusalOf, parts, isReading, Going}
 use Rattle.iter.specs.Walk.{Kind, lowLayer, kind, placeAt, handed, more, next}
 use Rattle.iter.specs.Walk.Kind.{gives, reads, done}
 use Rattle.iter.proofs.Cursors.{Low, low-found, low-stop, low-at, reading-low, resting-low}
 use Rattle.iter.proofs.Turns.{next-gives, next-done, next-paused, next-same}
 use Rattle.iter.proofs.Answers.{was-refused, lent-words}
 
 -- k reads more before a call's answer
 go-more : (k : ℕ) (o : Next) (r : ℕ) (c : Cursor) (f : Cursor → Filled) → goOn o (k + r) c f ≡ after [] k (goOn o r c f)
@@ -242,3 +243,7 @@ fill-answered out {x = x} {r = r} h s = subst (λ (y : Filled). Settled batchPap
 
 pub as-batch : {o : Outcome (List ℕ)} {r q : Batch} {x : List ℕ} → r ≡ q → Settled batchPaper o q x → Settled batchPaper o r x
 as-batch {o} {x = x} e s = subst (λ (y : Batch). Settled batchPaper o y x) (sym e) s
+
+-- a batch that meets a call's promise is the definition's: the paper reads it back
+pub the-batch : (f : Filled) (out : List ℕ) {r : Batch} {x : List ℕ} → Settled batchPaper (filled f out) r x → r ≡ batch f
+the-batch f out h = settles h (record { answer = refl; memory = refl }) .0

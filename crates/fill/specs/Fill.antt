@@ -9,14 +9,15 @@ use lib.Seq.{take-append-seam, drop-append-seam}
 use Rattle.util.specs.Outcome.{Outcome, Paper}
 use Rattle.store.specs.Layout.{top, cap, isStore}
 use Rattle.store.specs.Word.{word}
-use Rattle.iter.specs.declared.Batch.{Batch}
+use Rattle.fill.specs.declared.Batch.{Batch}
 use Rattle.iter.specs.declared.Cursor.{Cursor}
 use Rattle.iter.specs.declared.Next.{Next}
 use Rattle.iter.specs.declared.Next.the-variants.{Member, Paused, End, Refused}
-use Rattle.iter.specs.declared.Stop.{Stop}
-use Rattle.iter.specs.declared.Stop.the-variants.{Full, Paused as StopPaused, End as StopEnd, Refused as StopRefused}
+use Rattle.fill.specs.declared.Stop.{Stop}
+use Rattle.fill.specs.declared.Stop.the-variants.{Full, Paused as StopPaused, End as StopEnd, Refused as StopRefused}
 use Rattle.iter.specs.Calls.{fits}
-use Rattle.iter.specs.Walk.{next}
+use Rattle.iter.specs.Walk.{Kind, next}
+use Rattle.iter.specs.Walk.Kind.{gives, reads, done}
 
 -- the ids, and the batch that tells of them
 pub record Filled : Type 0 where
@@ -45,6 +46,12 @@ fillFrom lw t zero b c = stopped Full 0 c
 fillFrom lw t (suc m) b c =
     let a = next lw t b c in
     goOn (a .answer) (a .reads) (a .cursor) (fillFrom lw t m (b - a .reads))
+
+-- why no member is at hand
+abbrev pub restOf : Kind → Stop
+restOf gives = StopEnd
+restOf (reads j) = StopPaused
+restOf done = StopEnd
 
 -- ---- a batch on paper: the refusal's number or 0; 1 for full, 2 for paused, 3 for the end, 0 for a refusal; the number of members; the
 -- reads; how many masks there are, the masks, the prefixes

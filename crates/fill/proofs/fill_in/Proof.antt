@@ -1,15 +1,16 @@
--- `iter::Cursor::fill_in` meets its contract. The invariant: what stands in `out` and what a fill of its other places hands out are what the
+-- `fill::fill_in` meets its contract. The invariant: what stands in `out` and what a fill of its other places hands out are what the
 -- whole fill hands out. Assumes nothing.
 use mathlib.Core.List.{[], _∷_}
 use Prim.Native.Nat.{_+_, _-_}
 use native.Mathlib.Omega.{arith}
 use borrow.Author.Needs.{needs}
 use lib.ListN.{length, length-set}
-use Rattle.iter.specs.Steps.{parts, Filling}
+use Rattle.iter.specs.Steps.{parts, Sank}
+use Rattle.fill.specs.Steps.{Filling}
 use Rattle.iter.proofs.Cursors.{id-small}
-use Rattle.iter.proofs.Fills.{fill-start, fill-down, fill-rest, fill-again, fill-full, as-batch}
-use Rattle.iter.proofs.Cursor.fill_in.Statement.{statement}
-use Rattle.iter.proofs.Cursor.fill_in.Tie as tie
+use Rattle.fill.proofs.Fills.{fill-start, fill-down, fill-rest, fill-again, fill-full, as-batch}
+use Rattle.fill.proofs.fill_in.Statement.{statement}
+use Rattle.fill.proofs.fill_in.Tie as tie
 
 abbrev Inv-loop : tie.InvT-loop
 Inv-loop l2 l1 l0 budget out₀ c₀ spent₀ count₀ out c spent count = Filling (parts (l0 ∷ l1 ∷ l2 ∷ [])) 3 budget c₀ out₀ c spent count out
@@ -21,18 +22,24 @@ loop-holds : tie.Need-loop-holds Inv-loop μ-loop
 loop-holds c = fill-start _ 3 _ _ _ (c .before .before .before .before .pre)
 
 sink-requires : tie.Need-sink-requires Inv-loop μ-loop
-sink-requires c κs = let i = c .before .loop .inv in (i .fine, i .spent)
+sink-requires c κs = search needs
 
 -- a turn, from the loop's test to the one after the words are read
 abbrev in-of : tie.After-if12 Inv-loop μ-loop → tie.In-loop Inv-loop μ-loop
 in-of c = c .before .before .before
 
+sank-here : (c : tie.After-if12 Inv-loop μ-loop)
+    → let l = in-of c .before in
+    let a = l .before .before .before .before .before .args in
+    Sank (parts (a .l0 .now ∷ a .l1 .now ∷ a .l2 .now ∷ [])) (a .budget) (l .loop .spent) (l .loop .c) (c .before .before .sink .result)
+sank-here c = let i = in-of c .before .loop .inv in c .before .before .sink .ensures .sank (i .fine) (i .spent)
+
 filling-here : (c : tie.After-if12 Inv-loop μ-loop)
     → let l = in-of c .before in
     let a = l .before .before .before .before .before .args in
     let d = c .before .before .sink .result in
-    Filling (parts (a .l0 .now ∷ a .l1 .now ∷ a .l2 .now ∷ [])) 3 (a .budget) (a .self) (a .out .now) (d .cursor) (d .reads) (l .loop .count) (l .loop .out)
-filling-here c = fill-down (in-of c .before .loop .inv) (in-of c .loop-test .taken) (c .before .before .sink .ensures .going)
+    Filling (parts (a .l0 .now ∷ a .l1 .now ∷ a .l2 .now ∷ [])) 3 (a .budget) (a .from) (a .out .now) (d .cursor) (d .reads) (l .loop .count) (l .loop .out)
+filling-here c = fill-down (in-of c .before .loop .inv) (in-of c .loop-test .taken) (sank-here c .going)
 
 element-copy-out-if1 : tie.Need-element-copy-out-if1 Inv-loop μ-loop
 element-copy-out-if1 c = search needs
@@ -47,13 +54,15 @@ returns : tie.Need-returns Inv-loop μ-loop
 returns c =
     let t = c .before in
     as-batch (c .rest .ensures)
-    (fill-rest (filling-here (t .before)) (in-of (t .before) .loop-test .taken) (t .if1 .taken) (t .before .before .before .sink .ensures .stopped))
+    (fill-rest (filling-here (t .before)) (in-of (t .before) .loop-test .taken) (t .if1 .taken) (sank-here (t .before) .stopped))
 
 place-requires : tie.Need-place-requires Inv-loop μ-loop
 place-requires c κs = tt
 
 cast-out : tie.Need-cast-out Inv-loop μ-loop
-cast-out c = let e = c .before in record { fits = id-small _ (filling-here (e .before) .fine) (e .if1 .left) (c .place .ensures) }
+cast-out c =
+    let e = c .before in
+    record { fits = omega (arith, id-small (e .before .before .before .sink .result .cursor) (filling-here (e .before) .fine) (e .if1 .left) (c .place .ensures .1), c .place .ensures .0) }
 
 mul-out : tie.Need-mul-out Inv-loop μ-loop
 mul-out c = search needs
@@ -78,14 +87,14 @@ loop-again c =
     let e = p .before in
     fill-again (filling-here (e .before)) (in-of (e .before) .loop-test .taken) (e .if1 .left) (c .hand .result) (p .place .result) (c .hand .ensures) (p .place .ensures .0)
 
-batch-requires : tie.Need-batch-requires Inv-loop μ-loop
-batch-requires c κs = tt
+made-requires : tie.Need-made-requires Inv-loop μ-loop
+made-requires c κs = tt
 
 same-length-2 : tie.Need-same-length-2 Inv-loop μ-loop
 same-length-2 c = c .before .before .loop .inv .long
 
 returns-2 : tie.Need-returns-2 Inv-loop μ-loop
-returns-2 c = as-batch (c .batch .ensures) (fill-full (c .before .before .loop .inv) (c .before .loop-test .left))
+returns-2 c = as-batch (c .made .ensures) (fill-full (c .before .before .loop .inv) (c .before .loop-test .left))
 
 pub fill-in-spec : {M : Type 1} → statement M
 fill-in-spec =
@@ -107,6 +116,6 @@ fill-in-spec =
     add-count
     loop-less
     loop-again
-    batch-requires
+    made-requires
     same-length-2
     returns-2)
