@@ -101,6 +101,22 @@ resting-low t c e z = go (lowLayer t c) (low-found (c .masks) 0 (suc t)) e
     go zero low h = absurd (omega (arith, low .found (omega arith)))
     go (suc j) low h = past j (ltb j t) refl (omega (arith, low .last)) h
 
+-- a word has to be read: the layer above it is the first of the layers 1, 2 and 3 whose mask is not 0
+module _ (c : Cursor) (want : isReading (kind 3 c) ≡ true) where
+  pub low-one-of-three : getD (c .masks) 1 0 ≢ 0 → (lowLayer 3 c ≡ 1) × (0 < getD (c .masks) 1 0)
+  low-one-of-three h = (low-pass (c .masks) 0 3 (reading-zero 3 c want) ∙ low-stop (c .masks) 1 2 h, omega (arith, h))
+
+  module _ (z : getD (c .masks) 1 0 ≡ 0) where
+    pub low-two-of-three : getD (c .masks) 2 0 ≢ 0 → (lowLayer 3 c ≡ 2) × (0 < getD (c .masks) 2 0)
+    low-two-of-three h =
+        (low-pass (c .masks) 0 3 (reading-zero 3 c want) ∙ low-pass (c .masks) 1 2 z ∙ low-stop (c .masks) 2 1 h, omega (arith, h))
+
+    pub low-three-of-three : getD (c .masks) 2 0 ≡ 0 → (lowLayer 3 c ≡ 3) × (0 < getD (c .masks) 3 0)
+    low-three-of-three y =
+        let p = low-pass (c .masks) 0 3 (reading-zero 3 c want) ∙ low-pass (c .masks) 1 2 z ∙ low-pass (c .masks) 2 1 y in
+        let e : lowLayer 3 c ≡ 3 = omega (arith, p, low-found (c .masks) 3 1 .first, reading-low 3 c want) in
+        (e, subst (λ (k : ℕ). 0 < getD (c .masks) k 0) e (low-found (c .masks) 0 4 .found (omega (arith, e))))
+
 -- ---- prefixes
 
 pub prefix-below : (t : ℕ) (ps : List ℕ) (k : ℕ) → k < t → prefixAt t ps k ≡ getD ps k 0

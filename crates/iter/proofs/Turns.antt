@@ -198,6 +198,10 @@ module _ (r : ℕ) (c : Cursor) where
     same = λ f. still-end (λ (k i : ℕ). 0) 3 r c e z;
   }
 
+-- so a walk that sinks and finishes is next
+pub sink-finish : {lw : ℕ → ℕ → ℕ} {b : ℕ} {c : Cursor} {d : Sunk} {a : Step} → Fine 3 (c .prefix) → Sinks lw b 0 c d → Finishes (d .reads) (d .cursor) a → a ≡ next lw 3 b c
+sink-finish f s e = let k = s .sank f (omega arith) in e .same (k .going .fine) ∙ run-done (λ (k i : ℕ). 0) (k .going) (k .stopped)
+
 -- ---- layer words that agree below the top make the same walk
 
 -- what is done where a read is needed, twice, the same in each layer below the top

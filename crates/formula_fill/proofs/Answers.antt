@@ -1,0 +1,39 @@
+-- What each way out of the code answers is what the definition answers there.
+use mathlib.Core.List.{List}
+use mathlib.Core.Logic.{_≢_}
+use mathlib.Core.Path.{_≡_, sym, ap, _∙_}
+use Prim.Native.Nat.{ℕ}
+use native.Mathlib.Omega.{arith}
+use borrow.Author.Tests.{ne-eqb}
+use lib.ListN.{length}
+use Rattle.util.specs.Outcome.{Settled, settled}
+use Rattle.store.specs.Layout.{top, cap}
+use Rattle.iter.specs.declared.Cursor.{Cursor}
+use Rattle.fill.specs.declared.Batch.{Batch}
+use Rattle.fill.specs.declared.Stop.the-variants.{Refused}
+use Rattle.fill.specs.Fill.{Filled, stopped, fillFrom, batchPaper, filled}
+use Rattle.fill.proofs.Fills.{fill-same, fill-answered}
+use Rattle.codes.specs.Tree.{four}
+use Rattle.machine.specs.Machine.{machineWord}
+use Rattle.formula.specs.Calls.{wordsOf}
+use Rattle.formula_iter.specs.Calls.{refusalIn}
+use Rattle.formula_iter.proofs.Answers.{none-refused, walked-words}
+use Rattle.formula_fill.specs.Calls.{fillIn, fillOf}
+
+module _ (a b c d cs : List ℕ) (k : Cursor) {n : ℕ} (n-is : n ≡ refusalIn (four a b c d) cs k) (m : ℕ) (out : List ℕ) where
+  abbrev ss : List (List ℕ)
+  ss = four a b c d
+
+  pub fill-refused : n ≢ 0 → {r : Batch} → r ≡ record { cursor = k; reads = 0; count = 0; stop = Refused n } → Settled batchPaper (fillOf ss cs k m out) r out
+  unfolding fillIn
+  fill-refused h is =
+      let w : fillIn ss cs k m (length out) ≡ stopped (Refused n) 0 k = rw (← n-is, ne-eqb n 0 h) in
+      settled (ap (λ (x : Filled). filled x out) w ∙ ap (λ (x : Batch). record { numbers = batchPaper .numbers x; lent = out }) (sym is))
+
+  pub fill-runs : n ≡ 0 → {N : ℕ} → N ≡ cap a → {r : Batch} {x : List ℕ} → Settled batchPaper (filled (fillFrom (machineWord N ss cs) 3 (length out) m k) out) r x
+      → Settled batchPaper (fillOf ss cs k m out) r x
+  unfolding fillIn top
+  fill-runs h {N} N-is s =
+      let z = none-refused a b c d cs k n-is h .0 in
+      let w : fillIn ss cs k m (length out) ≡ fillFrom (wordsOf ss cs) 3 (length out) m k = rw (← n-is, h) in
+      fill-answered out (fill-same (machineWord N ss cs) (wordsOf ss cs) 3 (λ j i l. walked-words a b c d cs z N-is j i (omega arith)) (length out) m k ∙ sym w) s

@@ -1,0 +1,83 @@
+// Many members of a formula in one call: what that many calls of `formula_iter::next` do, with the tests made once.
+ghost use mathlib.Core.Path.{_≡_};
+ghost use lib.ListN.{length};
+ghost use Rattle.util.specs.Outcome.{Settled};
+ghost use Rattle.iter.specs.Calls.{Fine};
+ghost use Rattle.fill.specs.declared.Stop.the-variants.{Refused};
+ghost use Rattle.fill.specs.Fill.{fillFrom, batchPaper, filled};
+ghost use Rattle.codes.specs.Tree.{four};
+ghost use Rattle.machine.specs.Machine.{machineWord};
+ghost use Rattle.formula_fill.specs.Calls.{fillOf};
+use fill::Batch;
+use fill::Stop;
+use iter::Cursor;
+
+// A refused fill hands its cursor back.
+fn refused(c: Cursor, no: u32) -> Batch
+    ensures { λ r. ⌜ r ≡ record { cursor = c; reads = 0; count = 0; stop = Refused no } ⌝ }
+{
+    Batch {
+        cursor: c,
+        reads: 0,
+        count: 0,
+        stop: Stop::Refused(no),
+    }
+}
+
+// Fill over a formula, where nothing is refused.
+fn fill_in(
+    from: Cursor,
+    codes: &[u8],
+    n: usize,
+    s0: &[u64],
+    s1: &[u64],
+    s2: &[u64],
+    s3: &[u64],
+    budget: u64,
+    out: &mut [u32],
+) -> Batch
+    requires { ⌜ Fine 3 (from .prefix) ⌝ }
+    ensures { λ r. ⌜ Settled batchPaper (filled (fillFrom (machineWord n (four (now (s0 .entry)) (now (s1 .entry)) (now (s2 .entry)) (now (s3 .entry))) (now (codes .entry))) 3 (length (now (out .entry))) budget from) (now (out .entry))) r (now (out .exit)) ⌝ }
+{
+    let mut c = from;
+    let mut spent = 0u64;
+    let mut count = 0usize;
+    while count < out.len() {
+        let d = formula_iter::sink(c, codes, n, s0, s1, s2, s3, spent, budget);
+        c = d.cursor;
+        spent = d.reads;
+        if c.masks[0] == 0 {
+            return fill::rest(c, spent, count);
+        }
+        out[count] = c.place(0) as u32;
+        c = c.hand();
+        count += 1;
+    }
+    Batch {
+        cursor: c,
+        reads: spent,
+        count,
+        stop: Stop::Full,
+    }
+}
+
+// As many members of a formula as `out` holds or the budget allows.
+pub fn fill(
+    c: Cursor,
+    codes: &[u8],
+    s0: &[u64],
+    s1: &[u64],
+    s2: &[u64],
+    s3: &[u64],
+    budget: u64,
+    out: &mut [u32],
+) -> Batch
+    ensures { λ r. ⌜ Settled batchPaper (fillOf (four (now (s0 .entry)) (now (s1 .entry)) (now (s2 .entry)) (now (s3 .entry))) (now (codes .entry)) c budget (now (out .entry))) r (now (out .exit)) ⌝ }
+{
+    let no = formula_iter::refusal(c, codes, s0, s1, s2, s3);
+    if no != 0 {
+        return refused(c, no);
+    }
+    let n = store::get(s0, 0) as usize;
+    fill_in(c, codes, n, s0, s1, s2, s3, budget, out)
+}
