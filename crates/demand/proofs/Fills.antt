@@ -24,7 +24,7 @@ use Rattle.iter.proofs.Cursors.{fit-of}
 use Rattle.demand.proofs.Taken.{Wf, start-wf, start-fine}
 use Rattle.fill.proofs.Fills.{fill-runs}
 use Rattle.demand.proofs.Rest.{rest, cost, Moves, gone, Moved, moved-next, start-rest, start-cost}
-use Rattle.demand.specs.Fills.{Stopped, Ask, Some, Keeps, onward, fillsBy, AllStopped, fillAt, fillOn, fillsOn}
+use Rattle.demand.specs.Fills.{Stopped, Ask, Some, Keeps, onward, fillsBy, AllStopped, fillAt, Fills, fillOn, fillsOn}
 use Rattle.demand.specs.Fills.Stopped.{full, paused, ended}
 use Rattle.demand.specs.Walks.{Bounded, Kept}
 use Rattle.demand.specs.Walks.Kept.{member, paused as pausedAt, ended as endedAt}
@@ -179,6 +179,23 @@ module _ (lw : ℕ → ℕ → ℕ) (bounded : Bounded lw) (t : ℕ) where
   pub fills-stopped : (l : List Ask) → AllStopped (fillAt lw t) l (startAt t (lw t 0))
   fills-stopped l = stopped-from l (startAt t (lw t 0)) (start-wf t (lw t 0) (bounded t 0))
 
+-- ---- calls that are fills, one after another from the start
+
+module _ (lw : ℕ → ℕ → ℕ) (bounded : Bounded lw) (t : ℕ) (call : Ask → Cursor → Filled) (is : Fills lw t call) where
+  fills-is : (l : List Ask) (c : Cursor) → Wf t c → Fine t (c .prefix) → (fillsBy call c l ≡ fillsBy (fillAt lw t) c l) × AllStopped call l c
+  unfolding fillsBy AllStopped
+  fills-is [] c wf f = (refl, tt)
+  fills-is (a ∷ l) c wf f =
+      let g = fillAt lw t a c in
+      let m = fill-moved lw bounded t (a .room) (a .budget) c wf in
+      let i = fills-is l (g .cursor) (m .wf) (m .fine f) in (
+        ap (λ (x : Filled). onward (x .stop) (x .ids) (x .reads) (fillsBy call (x .cursor) l)) (is a c f) ∙ ap (onward (g .stop) (g .ids) (g .reads)) (i .0),
+        subst (λ (x : Filled). Keeps a x × AllStopped call l (x .cursor)) (sym (is a c f)) (m .kept, i .1),
+      )
+
+  pub filled-is : (l : List Ask) → (fillsBy call (startAt t (lw t 0)) l ≡ fillsBy (fillAt lw t) (startAt t (lw t 0)) l) × AllStopped call l (startAt t (lw t 0))
+  filled-is l = fills-is l (startAt t (lw t 0)) (start-wf t (lw t 0) (bounded t 0)) (start-fine t (lw t 0))
+
 -- ---- on one store
 
 module _ (s : List ℕ) (is : isStore s ≡ true) (small : Words64 s) where
@@ -189,29 +206,15 @@ module _ (s : List ℕ) (is : isStore s ≡ true) (small : Words64 s) where
   t = top (cap s)
 
   -- A FILL of a store at a cursor whose prefixes fit
-  pub fill-is : (a : Ask) (c : Cursor) → Fine t (c .prefix) → fillOn s a c ≡ fillAt lw t a c
+  pub fill-is : Fills lw t (fillOn s)
   fill-is a c f = sym (fill-runs (store-is is) c (a .budget) (a .room) (fit-of t (c .prefix) f))
-
-  fills-is : (l : List Ask) (c : Cursor) → Wf t c → Fine t (c .prefix)
-      → (fillsBy (fillOn s) c l ≡ fillsBy (fillAt lw t) c l) × AllStopped (fillOn s) l c
-  unfolding fillsBy AllStopped
-  fills-is [] c wf f = (refl, tt)
-  fills-is (a ∷ l) c wf f =
-      let g = fillAt lw t a c in
-      let m = fill-moved lw (word-lt (cap s) s small) t (a .room) (a .budget) c wf in
-      let i = fills-is l (g .cursor) (m .wf) (m .fine f) in (
-        ap (λ (x : Filled). onward (x .stop) (x .ids) (x .reads) (fillsBy (fillOn s) (x .cursor) l)) (fill-is a c f)
-            ∙ ap (onward (g .stop) (g .ids) (g .reads)) (i .0),
-        subst (λ (x : Filled). Keeps a x × AllStopped (fillOn s) l (x .cursor))
-            (sym (fill-is a c f)) (m .kept, i .1),
-      )
 
   from-start : (c : Cursor) (l : List Ask)
       → (fillsOn s c l ≡ fillsBy (fillAt lw t) (startAt t (lw t 0)) l) × AllStopped (fillOn s) l (startIn s c .cursor)
   from-start c l =
       subst (λ (x : Cursor). (fillsBy (fillOn s) x l ≡ fillsBy (fillAt lw t) (startAt t (lw t 0)) l) × AllStopped (fillOn s) l x)
       (sym (ap (λ (x : Step). x .cursor) (start-is (store-is is) c)))
-      (fills-is l (startAt t (lw t 0)) (start-wf t (lw t 0) (word-lt (cap s) s small t 0)) (start-fine t (lw t 0)))
+      (filled-is lw (word-lt (cap s) s small) t (fillOn s) fill-is l)
 
   -- A STARTED WALK of a store by fills, sound or not: none refuses or reads past its budget, and a paused one has spent it
   pub fills-kept : (c : Cursor) (l : List Ask) → AllStopped (fillOn s) l (startIn s c .cursor)

@@ -5,5 +5,6 @@ pub mod Prefixes
 pub mod Members
 pub mod Gaps
 pub mod Fewer
+pub mod Called
 pub mod Store
 pub mod Fills

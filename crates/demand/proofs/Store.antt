@@ -1,8 +1,8 @@
 -- Walks of one store, by the public definitions: started, and then a call of next for each budget of a list.
 use mathlib.Core.Bool.{true}
-use mathlib.Core.List.{List, [], _∷_, List·Memᴰ}
+use mathlib.Core.List.{List, List·Memᴰ}
 use mathlib.Core.Logic.{_↔_, _≢_}
-use mathlib.Core.Path.{_≡_, refl, sym, ap, ap₂, _∙_, subst}
+use mathlib.Core.Path.{_≡_, sym, ap, ap₂, _∙_, subst}
 use Prim.Native.Nat.{ℕ, _+_, _≤_}
 use native.Mathlib.Decide.{ℕ-discrete}
 use native.Mathlib.Omega.{arith}
@@ -14,21 +14,15 @@ use Rattle.store.proofs.Geometry.{store-is}
 use Rattle.store.proofs.Members.{members-are, members-rise}
 use Rattle.store.proofs.Words.{word-lt, on-lt}
 use Rattle.iter.specs.declared.Cursor.{Cursor}
-use Rattle.iter.specs.declared.Next.{Next}
-use Rattle.iter.specs.declared.Next.the-variants.{Member as MemberOf, Paused, End, Refused}
 use Rattle.iter.specs.declared.Step.{Step}
-use Rattle.iter.specs.Calls.{Fine, startIn}
+use Rattle.iter.specs.Calls.{startIn}
 use Rattle.demand.specs.Under.{allIds, allReads}
-use Rattle.iter.specs.Walk.{startAt, next, Run, onward, runBy, walk}
+use Rattle.iter.specs.Walk.{startAt, Run, runBy}
 use Rattle.iter.proofs.Answers.{start-is, next-runs}
 use Rattle.iter.proofs.Cursors.{fit-of}
-use Rattle.demand.proofs.Taken.{Wf, start-wf, start-fine}
-use Rattle.demand.proofs.Rest.{moved-next}
-use Rattle.demand.specs.Walks.{onAt, Clear, Full, Some, Kept, AllKept, spacedBy, Spaced, nextOn, walkOn}
-use Rattle.demand.proofs.Ends.{next-kept, walk-ends, walk-all}
-use Rattle.demand.proofs.Gaps.{spaced}
+use Rattle.demand.specs.Walks.{onAt, Clear, Full, Some, AllKept, Spaced, Nexts, nextOn, walkOn}
+use Rattle.demand.proofs.Called.{calls-kept, calls-defined, calls-over, calls-spaced}
 use Rattle.demand.proofs.Members.{ids-below}
-use Rattle.demand.proofs.Prefixes.{next-fine}
 
 -- ---- what soundness says of the layer words
 
@@ -67,51 +61,31 @@ module _ (s : List ℕ) (is : isStore s ≡ true) (small : Words64 s) where
   abbrev t : ℕ
   t = top (cap s)
 
-  call-is : (b : ℕ) (c : Cursor) → Fine t (c .prefix) → nextOn s b c ≡ next lw t b c
+  call-is : Nexts lw t (nextOn s)
   call-is b c f = sym (next-runs (store-is is) c b (fit-of t (c .prefix) f))
-
-  run-is : (bs : List ℕ) (c : Cursor) → Wf t c → Fine t (c .prefix) → runBy (nextOn s) c bs ≡ walk lw t c bs
-  unfolding runBy
-  run-is [] c wf f = refl
-  run-is (b ∷ bs) c wf f =
-      let a = next lw t b c in
-      ap (λ (x : Step). onward (x .answer) (x .reads) (runBy (nextOn s) (x .cursor) bs)) (call-is b c f)
-      ∙ ap (onward (a .answer) (a .reads)) (run-is bs (a .cursor) (moved-next lw (word-lt (cap s) s small) t b c wf .wf) (next-fine lw (word-lt (cap s) s small) t b c wf f))
-
-  kept-from : (bs : List ℕ) (c : Cursor) → Wf t c → Fine t (c .prefix) → AllKept (nextOn s) bs c
-  unfolding AllKept
-  kept-from [] c wf f = tt
-  kept-from (b ∷ bs) c wf f =
-      let m = moved-next lw (word-lt (cap s) s small) t b c wf in
-      subst (λ (x : Step). Kept b (x .answer) (x .reads) × AllKept (nextOn s) bs (x .cursor)) (sym (call-is b c f))
-      (next-kept lw t b c, kept-from bs (next lw t b c .cursor) (m .wf) (next-fine lw (word-lt (cap s) s small) t b c wf f))
 
   start-cursor : (c : Cursor) → startIn s c .cursor ≡ startAt t (lw t 0)
   start-cursor c = ap (λ (x : Step). x .cursor) (start-is (store-is is) c)
 
-  walk-is : (c : Cursor) (bs : List ℕ) → walkOn s c bs ≡ walk lw t (startAt t (lw t 0)) bs
-  walk-is c bs =
-      ap (λ (x : Cursor). runBy (nextOn s) x bs) (start-cursor c)
-      ∙ run-is bs (startAt t (lw t 0)) (start-wf t (lw t 0) (word-lt (cap s) s small t 0)) (start-fine t (lw t 0))
+  from-start : (c : Cursor) (bs : List ℕ) → walkOn s c bs ≡ runBy (nextOn s) (startAt t (lw t 0)) bs
+  from-start c bs = ap (λ (x : Cursor). runBy (nextOn s) x bs) (start-cursor c)
 
   -- A STARTED WALK of a store, sound or not: no call of it refuses or reads past its budget, and a paused one has spent it
   pub walk-kept : (c : Cursor) (bs : List ℕ) → AllKept (nextOn s) bs (startIn s c .cursor)
-  walk-kept c bs =
-      subst (AllKept (nextOn s) bs) (sym (start-cursor c))
-      (kept-from bs (startAt t (lw t 0)) (start-wf t (lw t 0) (word-lt (cap s) s small t 0)) (start-fine t (lw t 0)))
+  walk-kept c bs = subst (AllKept (nextOn s) bs) (sym (start-cursor c)) (calls-kept lw (word-lt (cap s) s small) t (nextOn s) call-is bs)
 
   -- One that ends has handed out the ids below the top word and reported the definition's count; and enough calls end it.
   pub walk-defined : (c : Cursor) (bs : List ℕ) → walkOn s c bs .over ≡ true
       → (walkOn s c bs .members ≡ allIds lw t) × (startIn s c .reads + walkOn s c bs .total ≡ allReads lw t)
   walk-defined c bs e =
-      let w = walk-is c bs in
-      let r = walk-all lw (word-lt (cap s) s small) t bs (sym (ap (λ (x : Run). x .over) w) ∙ e) in (
+      let w = from-start c bs in
+      let r = calls-defined lw (word-lt (cap s) s small) t (nextOn s) call-is bs (sym (ap (λ (x : Run). x .over) w) ∙ e) in (
         ap (λ (x : Run). x .members) w ∙ r .0,
         ap₂ (λ (x : Step) (y : Run). x .reads + y .total) (start-is (store-is is) c) w ∙ r .1,
       )
 
   pub walk-over : (c : Cursor) (bs : List ℕ) → Some bs → allReads lw t + length (allIds lw t) ≤ length bs → walkOn s c bs .over ≡ true
-  walk-over c bs some h = ap (λ (x : Run). x .over) (walk-is c bs) ∙ walk-ends lw (word-lt (cap s) s small) t bs some h
+  walk-over c bs some h = ap (λ (x : Run). x .over) (from-start c bs) ∙ calls-over lw (word-lt (cap s) s small) t (nextOn s) call-is bs some h
 
 -- ---- on a sound store
 
@@ -140,28 +114,9 @@ module _ (s : List ℕ) (is : isStore s ≡ true) (small : Words64 s) (z : Sound
         counted = d .1;
       }
 
-  spaced-from : (bs : List ℕ) (c : Cursor) (r : ℕ) → Wf (top (cap s)) c → Fine (top (cap s)) (c .prefix)
-      → Spaced (top (cap s)) (next (word (cap s) s) (top (cap s))) bs c r → Spaced (top (cap s)) (nextOn s) bs c r
-  unfolding Spaced
-  spaced-from [] c r wf f h = tt
-  spaced-from (b ∷ bs) c r wf f h =
-      subst (λ (x : Step). spacedBy (top (cap s)) (x .answer) (r + x .reads) (Spaced (top (cap s)) (nextOn s) bs (x .cursor))) (sym (call-is s is small b c f))
-      (go (a .answer) (r + a .reads) (λ n. spaced-from bs (a .cursor) n (moved-next (word (cap s) s) (word-lt (cap s) s small) (top (cap s)) b c wf .wf)
-      (next-fine (word (cap s) s) (word-lt (cap s) s small) (top (cap s)) b c wf f)) h)
-    where
-      a : Step
-      a = next (word (cap s) s) (top (cap s)) b c
-
-      go : (o : Next) (n : ℕ) → {P Q : ℕ → Type 0} → ((m : ℕ) → P m → Q m) → spacedBy (top (cap s)) o n P → spacedBy (top (cap s)) o n Q
-      go (MemberOf v) n f h = (h .0, f 0 (h .1))
-      go Paused n f h = (h .0, f n (h .1))
-      go End n f h = h
-      go (Refused m) n f h = h
-
   -- THE GAPS: after the top word at most three words, the layers below the top, are read before each next member, and none before the end
   pub walk-spaced : (c : Cursor) (bs : List ℕ) → Spaced (top (cap s)) (nextOn s) bs (startIn s c .cursor) 0
   walk-spaced c bs =
-      let w = word (cap s) s (top (cap s)) 0 in
+      let lw = word (cap s) s in
       subst (λ (x : Cursor). Spaced (top (cap s)) (nextOn s) bs x 0) (sym (start-cursor s is small c))
-      (spaced-from bs (startAt (top (cap s)) w) 0 (start-wf (top (cap s)) w (word-lt (cap s) s small (top (cap s)) 0)) (start-fine (top (cap s)) w)
-      (spaced (word (cap s) s) (word-lt (cap s) s small) (top (cap s)) (sound-full (cap s) s z) bs))
+      (calls-spaced lw (word-lt (cap s) s small) (top (cap s)) (nextOn s) (call-is s is small) (sound-full (cap s) s z) bs)

@@ -1,12 +1,13 @@
 -- What is said of fills: "as many members as `out` holds or the budget allows", one after another, until one answers the end.
 use mathlib.Core.Bool.{true, false}
 use mathlib.Core.List.{List, [], _∷_, _++_}
+use mathlib.Core.Path.{_≡_}
 use Prim.Native.Nat.{ℕ, _+_, _≤_}
 use lib.ListN.{length}
 use Rattle.iter.specs.declared.Cursor.{Cursor}
 use Rattle.fill.specs.declared.Stop.{Stop}
 use Rattle.fill.specs.declared.Stop.the-variants.{Full, Paused, End, Refused}
-use Rattle.iter.specs.Calls.{startIn}
+use Rattle.iter.specs.Calls.{Fine, startIn}
 use Rattle.fill.specs.Fill.{Filled, fillFrom, fillIn}
 use Rattle.iter.specs.Walk.{Run}
 
@@ -53,6 +54,10 @@ AllStopped call (a ∷ l) c = let f = call a c in Keeps a f × AllStopped call l
 -- over any layer words, with t the top layer
 abbrev pub fillAt : (ℕ → ℕ → ℕ) → ℕ → Ask → Cursor → Filled
 fillAt lw t a c = fillFrom lw t (a .room) (a .budget) c
+
+-- a call that is a fill over the layer words at every cursor whose prefixes fit
+abbrev pub Fills : (ℕ → ℕ → ℕ) → ℕ → (Ask → Cursor → Filled) → Type 0
+Fills lw t call = (a : Ask) (c : Cursor) → Fine t (c .prefix) → call a c ≡ fillAt lw t a c
 
 -- ---- on one store
 

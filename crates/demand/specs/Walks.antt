@@ -7,8 +7,8 @@ use Rattle.iter.specs.declared.Cursor.{Cursor}
 use Rattle.iter.specs.declared.Next.{Next}
 use Rattle.iter.specs.declared.Next.the-variants.{Member, Paused, End, Refused}
 use Rattle.iter.specs.declared.Step.{Step}
-use Rattle.iter.specs.Calls.{startIn, nextIn}
-use Rattle.iter.specs.Walk.{Run, runBy}
+use Rattle.iter.specs.Calls.{Fine, startIn, nextIn}
+use Rattle.iter.specs.Walk.{next, Run, runBy}
 
 -- ---- layer words
 
@@ -62,6 +62,12 @@ spacedBy t (Refused m) n later = ⊥
 unfoldable pub Spaced : ℕ → (ℕ → Cursor → Step) → List ℕ → Cursor → ℕ → Type 0
 Spaced t call [] c r = Unit {0}
 Spaced t call (b ∷ bs) c r = let a = call b c in spacedBy t (a .answer) (r + a .reads) (Spaced t call bs (a .cursor))
+
+-- ---- calls
+
+-- a call, the budget first, that is next over the layer words at every cursor whose prefixes fit
+abbrev pub Nexts : (ℕ → ℕ → ℕ) → ℕ → (ℕ → Cursor → Step) → Type 0
+Nexts lw t call = (b : ℕ) (c : Cursor) → Fine t (c .prefix) → call b c ≡ next lw t b c
 
 -- ---- on one store
 
