@@ -4,3 +4,4 @@ pub mod Sets
 pub mod Shapes
 pub mod Answers
 pub mod Walks
+pub mod Calls
