@@ -27,11 +27,15 @@ pub fn combine(op: u64, x: u64, y: u64) -> u64
     x ^ y
 }
 
-// Which of two words decides: where it is 0, the first one stays.
-pub fn moving(op: u64, x: u64, y: u64) -> u64
-    ensures { λ r. ⌜ r ≡ moved op x y ⌝ }
+// The word that decides, x or what stands at place c of the other part: where it is 0, x stays. The other part is read only where it
+// decides, so that nothing waits for a word that does not.
+pub fn moving(op: u64, x: u64, other: &[u64], c: usize) -> u64
+    ensures { λ r. ⌜ r ≡ moved op x (getD (now (other .entry)) c 0) ⌝ }
 {
-    if op == AND { x } else { y }
+    if op != AND {
+        return store::get(other, c);
+    }
+    x
 }
 
 fn flag(x: u64) -> u64

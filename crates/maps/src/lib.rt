@@ -3,10 +3,8 @@ ghost use mathlib.Core.Path.{_≡_};
 ghost use Prim.Native.Nat.{_≤_};
 ghost use lib.ListN.{length};
 ghost use Rattle.desk.specs.Slots.{partOf};
-ghost use Rattle.chunkmap.specs.Answer.{wrotePaper};
-ghost use Rattle.said.specs.Numbers.{saidOf, left};
+ghost use Rattle.said.specs.Numbers.{left};
 ghost use Rattle.maps.specs.Calls.{bytesOf, writtenOf, readInOf, actOf, fitsOf, changeOf};
-use chunkmap::Wrote;
 use said::Said;
 
 // The command words, a letter a byte, the first the highest.
@@ -38,28 +36,13 @@ fn give_bytes(part: &mut [u64], bytes: &[u8])
     }
 }
 
-// What the writer answered.
-fn wrote(r: Wrote) -> Said
-    ensures { λ n. ⌜ n ≡ saidOf (wrotePaper .numbers r) ⌝ }
-{
-    match r {
-        Wrote::Length(n) => Said {
-            count: 2,
-            a: 0,
-            b: n as u64,
-            c: 0,
-        },
-        Wrote::Refused(number) => said::one(number as u64),
-    }
-}
-
 // write M S: the map of slot s goes into slot m.
 fn write_map(desk: &mut [u64], m: u64, s: u64, bytes: &mut [u8]) -> Said
     requires { ⌜ length (now bytes) ≡ length (partOf (now desk) m) ⌝ }
     ensures { λ r. ⌜ left r (now (desk .exit)) ≡ writtenOf (now (desk .entry)) m s ⌝ }
 {
     take_bytes(desk::part(desk, m), bytes);
-    let r = wrote(chunkmap::write(desk::part(desk, s), bytes));
+    let r = wrote::wrote(chunkmap::write(desk::part(desk, s), bytes));
     let p = desk::slot(desk, m);
     let a = p.from;
     let e = p.to;

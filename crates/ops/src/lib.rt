@@ -65,7 +65,7 @@ fn below(
         let t = u64::trailing_zeros(left) as usize;
         let c = j * 64 + t;
         let x = store::get(&store[a..e], c);
-        let y = groups::moving(op, x, store::get(&other[a..e], c));
+        let y = groups::moving(op, x, &other[a..e], c);
         let z = under(store, other, n, k, c, x, y, op);
         store::put(&mut store[a..e], c, z);
         over = util::with_bit(over, t, z != 0);

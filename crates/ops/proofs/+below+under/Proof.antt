@@ -1,5 +1,5 @@
 -- `ops::below` and `ops::under` meet their contracts: each turn does one named word and all under it, one layer down. Assumes nothing.
-use mathlib.Core.Path.{_≡_, refl, sym, ap, _∙_}
+use mathlib.Core.Path.{_≡_, refl}
 use Prim.Native.Nat.{ℕ, _+_, _-_, _*_, _^_, _≤_, _<_}
 use native.Mathlib.Omega.{arith}
 use borrow.Author.Needs.{needs}
@@ -8,7 +8,6 @@ use borrow.Fn.PlainCycle.{Measures, is, falls, and}
 use lib.Count.{trailingZeros, trailing-le}
 use lib.ListN.{length}
 use Rattle.util.proofs.Places.{Lowest, lowest}
-use Rattle.groups.specs.Op.{moved}
 use Rattle.groups.proofs.Loops.{less-left}
 use Rattle.ops.specs.Tree.{Ask, Level}
 use Rattle.ops.proofs.Steps.{top-is, level-start, level-end, small-ask, store-here, ask-child, inside, ordered, near, inside-both, level-turn, ask-zero, level-zero}
@@ -168,27 +167,24 @@ part-get-end t c = omega (arith, part-in t (c .before))
 get-requires : (t : ℕ) → lts.Need-get-requires (B t) (At t) below.Post Inv-loop μ-loop
 get-requires t c κs = search needs
 
-mul-get-2 : (t : ℕ) → lts.Need-mul-get-2 (B t) (At t) below.Post Inv-loop μ-loop
-mul-get-2 t c = let i = c .before .before .before in omega (arith, ordered-here t i, near-here t i)
+mul-moving : (t : ℕ) → lts.Need-mul-moving (B t) (At t) below.Post Inv-loop μ-loop
+mul-moving t c = let i = c .before .before .before in omega (arith, ordered-here t i, near-here t i)
 
-sub-get-2 : (t : ℕ) → lts.Need-sub-get-2 (B t) (At t) below.Post Inv-loop μ-loop
-sub-get-2 t c = omega (arith, ordered-here t (c .before .before .before))
+sub-moving : (t : ℕ) → lts.Need-sub-moving (B t) (At t) below.Post Inv-loop μ-loop
+sub-moving t c = omega (arith, ordered-here t (c .before .before .before))
 
-part-get-start-2 : (t : ℕ) → lts.Need-part-get-start-2 (B t) (At t) below.Post Inv-loop μ-loop
-part-get-start-2 t c = omega (arith, ordered-here t (c .before .before .before))
+part-moving-start : (t : ℕ) → lts.Need-part-moving-start (B t) (At t) below.Post Inv-loop μ-loop
+part-moving-start t c = omega (arith, ordered-here t (c .before .before .before))
 
-part-get-end-2 : (t : ℕ) → lts.Need-part-get-end-2 (B t) (At t) below.Post Inv-loop μ-loop
-part-get-end-2 t c = omega (arith, part-in-other t (c .before .before .before))
-
-get-requires-2 : (t : ℕ) → lts.Need-get-requires-2 (B t) (At t) below.Post Inv-loop μ-loop
-get-requires-2 t c κs = search needs
+part-moving-end : (t : ℕ) → lts.Need-part-moving-end (B t) (At t) below.Post Inv-loop μ-loop
+part-moving-end t c = omega (arith, part-in-other t (c .before .before .before))
 
 moving-requires : (t : ℕ) → lts.Need-moving-requires (B t) (At t) below.Post Inv-loop μ-loop
 moving-requires t c κs = search needs
 
 under-requires : (t : ℕ) → lts.Need-under-requires (B t) (At t) below.Post Inv-loop μ-loop
 under-requires t c κs =
-    let i = c .before .before .before .before .before .before .before in
+    let i = c .before .before .before .before .before .before in
     let h = i .before in
     let s = h .before .before .before .before .before in (
       omega (arith, s .pre .0),
@@ -196,16 +192,16 @@ under-requires t c κs =
     )
 
 mul-put : (t : ℕ) → lts.Need-mul-put (B t) (At t) below.Post Inv-loop μ-loop
-mul-put t c = let i = c .before .before .before .before .before .before .before .before .before .before in omega (arith, ordered-here t i, near-here t i)
+mul-put t c = let i = c .before .before .before .before .before .before .before .before .before in omega (arith, ordered-here t i, near-here t i)
 
 sub-put : (t : ℕ) → lts.Need-sub-put (B t) (At t) below.Post Inv-loop μ-loop
-sub-put t c = omega (arith, ordered-here t (c .before .before .before .before .before .before .before .before .before .before))
+sub-put t c = omega (arith, ordered-here t (c .before .before .before .before .before .before .before .before .before))
 
 part-put-start : (t : ℕ) → lts.Need-part-put-start (B t) (At t) below.Post Inv-loop μ-loop
-part-put-start t c = omega (arith, ordered-here t (c .before .before .before .before .before .before .before .before .before .before))
+part-put-start t c = omega (arith, ordered-here t (c .before .before .before .before .before .before .before .before .before))
 
 part-put-end : (t : ℕ) → lts.Need-part-put-end (B t) (At t) below.Post Inv-loop μ-loop
-part-put-end t c = omega (arith, part-in t (c .before .before .before .before .before .before .before .before .before .before), c .before .before .under .ensures .long)
+part-put-end t c = omega (arith, part-in t (c .before .before .before .before .before .before .before .before .before), c .before .before .under .ensures .long)
 
 put-requires : (t : ℕ) → lts.Need-put-requires (B t) (At t) below.Post Inv-loop μ-loop
 put-requires t c κs = search needs
@@ -218,7 +214,7 @@ with-bit-requires-2 t c κs = search needs
 
 loop-less : (t : ℕ) → lts.Need-loop-less (B t) (At t) below.Post Inv-loop μ-loop
 loop-less t c =
-    let i = c .before .before .before .before .before .before .before .before .before .before .before .before .before .before .before .before in
+    let i = c .before .before .before .before .before .before .before .before .before .before .before .before .before .before .before in
     less-left (low t i .inside) (low t i .on) (c .with-bit2 .ensures)
 
 loop-again : (t : ℕ) → lts.Need-loop-again (B t) (At t) below.Post Inv-loop μ-loop
@@ -227,13 +223,12 @@ loop-again t c =
     let p = w .before .before .before in
     let r = p .before .before .before .before in
     let v = r .before .before in
-    let y = v .before in
-    let x = y .before .before in
+    let x = v .before .before in
     let i = x .before .before .before in
     let h = i .before in
     let e = h .before in
     level-turn (ask t i) (h .loop .inv) (e .before .end .ensures) (e .end2 .ensures) (λ z. omega (arith, above t i)) (low t i .inside) (low t i .on) refl
-    (x .get .ensures) (v .moving .ensures ∙ ap (moved _ _) (y .get2 .ensures)) (r .under .ensures) (p .put .ensures) (w .with-bit .ensures)
+    (x .get .ensures) (v .moving .ensures) (r .under .ensures) (p .put .ensures) (w .with-bit .ensures)
     (c .with-bit2 .ensures)
 
 same-length : (t : ℕ) → lts.Need-same-length (B t) (At t) below.Post Inv-loop μ-loop
@@ -258,11 +253,10 @@ pub +below+under-spec : {M : Type 1} → statement M
     (part-get-start t)
     (part-get-end t)
     (get-requires t)
-    (mul-get-2 t)
-    (sub-get-2 t)
-    (part-get-start-2 t)
-    (part-get-end-2 t)
-    (get-requires-2 t)
+    (mul-moving t)
+    (sub-moving t)
+    (part-moving-start t)
+    (part-moving-end t)
     (moving-requires t)
     (under-requires t)
     (mul-put t)

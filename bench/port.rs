@@ -1,0 +1,125 @@
+//! The port by its archives.
+
+#[repr(C)]
+struct Answer {
+    refusal: u64,
+    value: u64,
+}
+
+#[repr(C)]
+struct Step {
+    which: u64,
+    value: u64,
+}
+
+extern "C" {
+    fn fen_contains(store: *const u64, len: usize, id: u32) -> Answer;
+    fn fen_add(store: *mut u64, len: usize, id: u32) -> Answer;
+    fn fen_remove(store: *mut u64, len: usize, id: u32) -> Answer;
+    fn fen_add_list(store: *mut u64, len: usize, ids: *const u32, count: usize) -> Answer;
+    fn fen_first_free(store: *const u64, len: usize) -> Answer;
+    fn fen_start(store: *const u64, len: usize, cursor: *mut [u64; 10]) -> Step;
+    fn fen_next(store: *const u64, len: usize, cursor: *mut [u64; 10], budget: u64) -> Step;
+    fn fen_fill(store: *const u64, len: usize, cursor: *mut [u64; 10], budget: u64, out: *mut u32, room: usize) -> Step;
+    fn fen_bitor_assign(store: *mut u64, len: usize, other: *const u64, length: usize) -> Answer;
+    fn fen_bitand_assign(store: *mut u64, len: usize, other: *const u64, length: usize) -> Answer;
+    fn fen_bitxor_assign(store: *mut u64, len: usize, other: *const u64, length: usize) -> Answer;
+    fn fen_write(store: *const u64, len: usize, buf: *mut u8, room: usize) -> Answer;
+    fn fen_read(map: *const u8, length: usize, store: *mut u64, len: usize) -> Answer;
+}
+
+type Merge = unsafe extern "C" fn(*mut u64, usize, *const u64, usize) -> Answer;
+
+/// A store of capacity n, opened by hand.
+#[derive(Clone)]
+pub struct Store(pub Vec<u64>);
+
+impl Store {
+    pub fn new(n: usize) -> Store {
+        let length = 2 + n.div_ceil(64) + n.div_ceil(4096) + n.div_ceil(262_144);
+        let mut words = vec![0; length];
+        words[0] = n as u64;
+        Store(words)
+    }
+
+    pub fn contains(&self, id: u32) -> u64 {
+        unsafe { fen_contains(self.0.as_ptr(), self.0.len(), id).value }
+    }
+
+    pub fn add(&mut self, id: u32) -> u64 {
+        unsafe { fen_add(self.0.as_mut_ptr(), self.0.len(), id).value }
+    }
+
+    pub fn remove(&mut self, id: u32) -> u64 {
+        unsafe { fen_remove(self.0.as_mut_ptr(), self.0.len(), id).value }
+    }
+
+    pub fn add_list(&mut self, ids: &[u32]) -> u64 {
+        unsafe { fen_add_list(self.0.as_mut_ptr(), self.0.len(), ids.as_ptr(), ids.len()).refusal }
+    }
+
+    pub fn first_free(&self) -> u64 {
+        unsafe { fen_first_free(self.0.as_ptr(), self.0.len()).refusal }
+    }
+
+    pub fn start(&self) -> [u64; 10] {
+        let mut cursor = [0; 10];
+        assert!(unsafe { fen_start(self.0.as_ptr(), self.0.len(), &mut cursor) }.which == 2);
+        cursor
+    }
+
+    /// The sum of all ids, a member a call.
+    pub fn next_sum(&self) -> u64 {
+        let (mut cursor, mut sum) = (self.start(), 0);
+        loop {
+            let step = unsafe { fen_next(self.0.as_ptr(), self.0.len(), &mut cursor, 4) };
+            match step.which {
+                1 => sum += step.value,
+                3 => return sum,
+                _ => panic!("next: {} {}", step.which, step.value),
+            }
+        }
+    }
+
+    /// The sum of all ids, up to 256 members a call.
+    pub fn fill_sum(&self) -> u64 {
+        let (mut cursor, mut sum, mut out) = (self.start(), 0, [0; 256]);
+        loop {
+            let step = unsafe {
+                fen_fill(self.0.as_ptr(), self.0.len(), &mut cursor, u64::MAX, out.as_mut_ptr(), out.len())
+            };
+            sum += out[..step.value as usize].iter().map(|&id| u64::from(id)).sum::<u64>();
+            match step.which {
+                1 => {}
+                3 => return sum,
+                _ => panic!("fill: {} {}", step.which, step.value),
+            }
+        }
+    }
+
+    fn merge(&mut self, other: &Store, call: Merge) {
+        let answer = unsafe { call(self.0.as_mut_ptr(), self.0.len(), other.0.as_ptr(), other.0.len()) };
+        assert_eq!(answer.refusal, 0);
+    }
+
+    pub fn or(&mut self, other: &Store) {
+        self.merge(other, fen_bitor_assign);
+    }
+
+    pub fn and(&mut self, other: &Store) {
+        self.merge(other, fen_bitand_assign);
+    }
+
+    pub fn xor(&mut self, other: &Store) {
+        self.merge(other, fen_bitxor_assign);
+    }
+
+    /// The length of the map that was written.
+    pub fn write(&self, buf: &mut [u8]) -> u64 {
+        unsafe { fen_write(self.0.as_ptr(), self.0.len(), buf.as_mut_ptr(), buf.len()).value }
+    }
+
+    pub fn read(&mut self, map: &[u8]) -> u64 {
+        unsafe { fen_read(map.as_ptr(), map.len(), self.0.as_mut_ptr(), self.0.len()).refusal }
+    }
+}

@@ -1,0 +1,12 @@
+-- An answer's numbers as a C caller gets them. Document 01: "Each returns its number and zeros elsewhere".
+use mathlib.Core.List.{List}
+use Prim.Native.Nat.{ℕ}
+use Rattle.said.specs.Numbers.{saidOf}
+use Rattle.said.specs.declared.Said.{Said}
+use Rattle.abi.specs.declared.Answer.{Answer}
+
+abbrev pub toldOf : Said → Answer
+toldOf s = record { refusal = s .a; value = s .b }
+
+abbrev pub answerOf : List ℕ → Answer
+answerOf l = toldOf (saidOf l)

@@ -1,2 +1,0 @@
-pub mod Abi
-pub mod Walk

@@ -1,0 +1,25 @@
+-- `export_map::fen_read` meets its contract. Assumes nothing.
+use borrow.Author.Needs.{needs}
+use Rattle.store.specs.Answer.{didPaper}
+use Rattle.abi.proofs.Tells.{tells}
+use Rattle.export_map.proofs.fen_read.Statement.{statement}
+use Rattle.export_map.proofs.fen_read.Tie as tie
+
+read-requires : tie.Need-read-requires
+read-requires c κs = search needs
+
+did-requires : tie.Need-did-requires
+did-requires c κs = search needs
+
+told-requires : tie.Need-told-requires
+told-requires c κs = search needs
+
+same-length : tie.Need-same-length
+same-length c = search needs
+
+returns : tie.Need-returns
+returns c = (tells didPaper (c .before .before .before .before .read .ensures) (c .before .did .ensures) (c .told .ensures), c .before .before .before .before .read .ensures .memory)
+
+pub fen-read-spec : {M : Type 1} → statement M
+fen-read-spec =
+    tie.close (tie.spec read-requires did-requires told-requires same-length returns)

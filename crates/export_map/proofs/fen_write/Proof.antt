@@ -1,0 +1,25 @@
+-- `export_map::fen_write` meets its contract. Assumes nothing.
+use borrow.Author.Needs.{needs}
+use Rattle.chunkmap.specs.Answer.{wrotePaper}
+use Rattle.abi.proofs.Tells.{tells}
+use Rattle.export_map.proofs.fen_write.Statement.{statement}
+use Rattle.export_map.proofs.fen_write.Tie as tie
+
+write-requires : tie.Need-write-requires
+write-requires c κs = search needs
+
+wrote-requires : tie.Need-wrote-requires
+wrote-requires c κs = search needs
+
+told-requires : tie.Need-told-requires
+told-requires c κs = search needs
+
+same-length : tie.Need-same-length
+same-length c = search needs
+
+returns : tie.Need-returns
+returns c = (tells wrotePaper (c .before .before .before .before .write .ensures) (c .before .wrote .ensures) (c .told .ensures), c .before .before .before .before .write .ensures .memory)
+
+pub fen-write-spec : {M : Type 1} → statement M
+fen-write-spec =
+    tie.close (tie.spec write-requires wrote-requires told-requires same-length returns)

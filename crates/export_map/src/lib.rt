@@ -1,0 +1,22 @@
+// The chunk map for C and Rust: slices arrive as pointer and length.
+ghost use mathlib.Core.Path.{_≡_};
+ghost use Rattle.chunkmap.specs.Calls.{writeOf};
+ghost use Rattle.mapread.specs.Calls.{readOf};
+ghost use Rattle.abi.specs.Abi.{answerOf};
+use abi::Answer;
+
+#[no_mangle]
+pub extern "C" fn fen_write(store: &[u64], buf: &mut [u8]) -> Answer
+    ensures { λ r. ⌜ r ≡ answerOf (writeOf (now (store .entry)) (now (buf .entry)) .numbers) ⌝ }
+    ensures { λ r. ⌜ now (buf .exit) ≡ writeOf (now (store .entry)) (now (buf .entry)) .lent ⌝ }
+{
+    abi::told(wrote::wrote(chunkmap::write(store, buf)))
+}
+
+#[no_mangle]
+pub extern "C" fn fen_read(map: &[u8], store: &mut [u64]) -> Answer
+    ensures { λ r. ⌜ r ≡ answerOf (readOf (now (map .entry)) (now (store .entry)) .numbers) ⌝ }
+    ensures { λ r. ⌜ now (store .exit) ≡ readOf (now (map .entry)) (now (store .entry)) .lent ⌝ }
+{
+    abi::told(said::did(mapread::read(map, store)))
+}

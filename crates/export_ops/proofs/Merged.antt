@@ -1,0 +1,20 @@
+-- What a caller in C gets of a merge is what `ops` promises.
+use mathlib.Core.List.{List}
+use mathlib.Core.Path.{_≡_, sym, ap, _∙_, subst}
+use Prim.Native.Nat.{ℕ}
+use Rattle.store.specs.Answer.{didPaper}
+use Rattle.store.specs.declared.Did.{Did}
+use Rattle.said.specs.Numbers.{saidOf}
+use Rattle.said.specs.declared.Said.{Said}
+use Rattle.ops.specs.Calls.{assignOf, Assigned}
+use Rattle.abi.specs.Abi.{answerOf, toldOf}
+use Rattle.abi.specs.declared.Answer.{Answer}
+use Rattle.abi.proofs.Tells.{tells-numbers}
+use Rattle.export_ops.specs.Calls.{Leaves}
+
+pub merged : {op : ℕ} {s t u : List ℕ} {r : Did} {n : Said} {a : Answer} → Assigned op s t r u → n ≡ saidOf (didPaper .numbers r) → a ≡ toldOf n
+    → (a ≡ answerOf (assignOf op s t .numbers)) × Leaves op s t u
+merged {op} {s} {t} {u} {r} m e f = (
+  tells-numbers didPaper {r = r} (m .answer) e f,
+  subst (λ (x : Did). Assigned op s t x u) (sym (didPaper .same r) ∙ ap (didPaper .answer) (m .answer)) m,
+)

@@ -1,0 +1,30 @@
+// Or, and, xor in place for C and Rust: slices arrive as pointer and length.
+ghost use mathlib.Core.Path.{_≡_};
+ghost use Rattle.ops.specs.Calls.{assignOf};
+ghost use Rattle.abi.specs.Abi.{answerOf};
+ghost use Rattle.export_ops.specs.Calls.{Leaves};
+use abi::Answer;
+
+#[no_mangle]
+pub extern "C" fn fen_bitor_assign(store: &mut [u64], other: &[u64]) -> Answer
+    ensures { λ r. ⌜ r ≡ answerOf (assignOf 17 (now (store .entry)) (now (other .entry)) .numbers) ⌝ }
+    ensures { λ r. ⌜ Leaves 17 (now (store .entry)) (now (other .entry)) (now (store .exit)) ⌝ }
+{
+    abi::told(said::did(ops::bitor_assign(store, other)))
+}
+
+#[no_mangle]
+pub extern "C" fn fen_bitand_assign(store: &mut [u64], other: &[u64]) -> Answer
+    ensures { λ r. ⌜ r ≡ answerOf (assignOf 16 (now (store .entry)) (now (other .entry)) .numbers) ⌝ }
+    ensures { λ r. ⌜ Leaves 16 (now (store .entry)) (now (other .entry)) (now (store .exit)) ⌝ }
+{
+    abi::told(said::did(ops::bitand_assign(store, other)))
+}
+
+#[no_mangle]
+pub extern "C" fn fen_bitxor_assign(store: &mut [u64], other: &[u64]) -> Answer
+    ensures { λ r. ⌜ r ≡ answerOf (assignOf 18 (now (store .entry)) (now (other .entry)) .numbers) ⌝ }
+    ensures { λ r. ⌜ Leaves 18 (now (store .entry)) (now (other .entry)) (now (store .exit)) ⌝ }
+{
+    abi::told(said::did(ops::bitxor_assign(store, other)))
+}

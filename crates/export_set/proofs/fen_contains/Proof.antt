@@ -1,0 +1,21 @@
+-- `export_set::fen_contains` meets its contract. Assumes nothing.
+use Rattle.store.specs.Answer.{askedPaper}
+use Rattle.abi.proofs.Tells.{tells}
+use borrow.Author.Needs.{needs}
+use Rattle.export_set.proofs.fen_contains.Statement.{statement}
+use Rattle.export_set.proofs.fen_contains.Tie as tie
+
+contains-requires : tie.Need-contains-requires
+contains-requires c κs = search needs
+
+asked-requires : tie.Need-asked-requires
+asked-requires c κs = search needs
+
+told-requires : tie.Need-told-requires
+told-requires c κs = search needs
+
+returns : tie.Need-returns
+returns c = tells askedPaper (c .before .before .contains .ensures) (c .before .asked .ensures) (c .told .ensures)
+
+pub fen-contains-spec : {M : Type 1} → statement M
+fen-contains-spec = tie.close (tie.spec contains-requires asked-requires told-requires returns)

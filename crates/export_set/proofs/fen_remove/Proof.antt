@@ -1,0 +1,25 @@
+-- `export_set::fen_remove` meets its contract. Assumes nothing.
+use Rattle.store.specs.Answer.{askedPaper}
+use Rattle.abi.proofs.Tells.{tells}
+use borrow.Author.Needs.{needs}
+use Rattle.export_set.proofs.fen_remove.Statement.{statement}
+use Rattle.export_set.proofs.fen_remove.Tie as tie
+
+remove-requires : tie.Need-remove-requires
+remove-requires c κs = search needs
+
+asked-requires : tie.Need-asked-requires
+asked-requires c κs = search needs
+
+told-requires : tie.Need-told-requires
+told-requires c κs = search needs
+
+same-length : tie.Need-same-length
+same-length c = search needs
+
+returns : tie.Need-returns
+returns c = (tells askedPaper (c .before .before .before .before .remove .ensures) (c .before .asked .ensures) (c .told .ensures), c .before .before .before .before .remove .ensures .memory)
+
+pub fen-remove-spec : {M : Type 1} → statement M
+fen-remove-spec =
+    tie.close (tie.spec remove-requires asked-requires told-requires same-length returns)

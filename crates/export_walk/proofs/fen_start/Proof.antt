@@ -1,0 +1,34 @@
+-- `export_walk::fen_start` meets its contract. Assumes nothing.
+use mathlib.Core.Path.{_≡_, ap, _∙_}
+use borrow.Author.Needs.{needs}
+use Rattle.iter.specs.declared.Cursor.{Cursor}
+use Rattle.iter.specs.declared.Step.{Step}
+use Rattle.iter.specs.Calls.{startIn}
+use Rattle.iter.proofs.Answers.{the-step}
+use Rattle.words.specs.Ten.{cursorOf}
+use Rattle.steps.specs.Answers.{movedOf, wordsOf}
+use Rattle.export_walk.proofs.fen_start.Statement.{statement}
+use Rattle.export_walk.proofs.fen_start.Tie as tie
+
+taken-requires : tie.Need-taken-requires
+taken-requires c κs = search needs
+
+start-requires : tie.Need-start-requires
+start-requires c κs = search needs
+
+told-step-requires : tie.Need-told-step-requires
+told-step-requires c κs = search needs
+
+returns : tie.Need-returns
+returns c =
+    let n = c .before .before in
+    let t = n .before in
+    let a = t .before .before .before .args in
+    let s = a .store .now in
+    let l = a .cursor .now in
+    let e : n .start .result ≡ startIn s (cursorOf l) =
+    the-step (startIn s (t .taken .result)) (n .start .ensures) ∙ ap (λ (x : Cursor). startIn s x) (t .taken .ensures) in
+    (c .told-step .ensures .0 ∙ ap movedOf e, c .told-step .ensures .1 ∙ ap (λ (x : Step). wordsOf x l) e)
+
+pub fen-start-spec : {M : Type 1} → statement M
+fen-start-spec = tie.close (tie.spec taken-requires start-requires told-step-requires returns)
