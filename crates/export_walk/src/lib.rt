@@ -1,7 +1,7 @@
 // The walk for C and Rust: slices arrive as pointer and length, a cursor as ten words.
 ghost use mathlib.Core.Path.{_≡_};
-ghost use Rattle.steps.specs.Answers.{movedOf, wordsOf};
-ghost use Rattle.export_walk.specs.Walk.{startedOf, steppedOf, filledOf, stoppedOf, fillWordsOf, outOf};
+ghost use Rattle.steps.specs.Answers.{movedOf, wordsOf, stoppedOf, fillWordsOf, outOf};
+ghost use Rattle.export_walk.specs.Walk.{startedOf, steppedOf, filledOf};
 use steps::Step;
 
 #[no_mangle]

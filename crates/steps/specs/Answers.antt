@@ -3,12 +3,14 @@ use mathlib.Core.Bool.{cond}
 use mathlib.Core.List.{List}
 use Prim.Native.Nat.{ℕ}
 use lib.Dec.{eqb}
+use lib.ListN.{length}
 use Rattle.iter.specs.declared.Cursor.{Cursor}
 use Rattle.iter.specs.declared.Next.{Next}
 use Rattle.iter.specs.declared.Next.the-variants.{Member, Paused, End, Refused}
 use Rattle.iter.specs.declared.Step.{Step as Stepped}
 use Rattle.fill.specs.declared.Stop.{Stop}
 use Rattle.fill.specs.declared.Stop.the-variants.{Full, Paused as StopPaused, End as StopEnd, Refused as StopRefused}
+use Rattle.fill.specs.Fill.{Filled, filled}
 use Rattle.words.specs.Ten.{putOf}
 use Rattle.steps.specs.declared.Step.{Step}
 
@@ -38,3 +40,15 @@ movedOf a = stepOf (a .answer)
 
 abbrev pub wordsOf : Stepped → List ℕ → List ℕ
 wordsOf a l = leftOf (movedOf a) l (a .cursor) (a .reads)
+
+-- ---- a fill: what is answered, the words at exit, and `out` at exit
+
+abbrev pub stoppedOf : Filled → Step
+stoppedOf f = stopOf (f .stop) (length (f .ids))
+
+abbrev pub fillWordsOf : Filled → List ℕ → List ℕ
+fillWordsOf f l = leftOf (stoppedOf f) l (f .cursor) (f .reads)
+
+-- "as many members as `out` holds or the budget allows .. unused places of `out` unchanged"
+abbrev pub outOf : Filled → List ℕ → List ℕ
+outOf f out = filled f out .lent

@@ -9,8 +9,7 @@ use Rattle.iter.specs.declared.Cursor.{Cursor}
 use Rattle.fill.specs.Fill.{Filled, batch, fillIn}
 use Rattle.fill.proofs.Fills.{the-batch}
 use Rattle.words.specs.Ten.{cursorOf}
-use Rattle.steps.specs.Answers.{stopOf, leftOf}
-use Rattle.export_walk.specs.Walk.{outOf}
+use Rattle.steps.specs.Answers.{stopOf, leftOf, outOf}
 use Rattle.export_walk.proofs.fen_fill.Statement.{statement}
 use Rattle.export_walk.proofs.fen_fill.Tie as tie
 

@@ -1,0 +1,51 @@
+-- `export_formula::fen_formula_fill` meets its contract. Assumes nothing.
+use mathlib.Core.List.{List}
+use mathlib.Core.Path.{_≡_, ap, _∙_}
+use Prim.Native.Nat.{ℕ}
+use borrow.Author.Needs.{needs}
+use lib.ListN.{length}
+use Rattle.fill.specs.declared.Batch.{Batch}
+use Rattle.iter.specs.declared.Cursor.{Cursor}
+use Rattle.fill.specs.Fill.{Filled, batch}
+use Rattle.codes.specs.Tree.{four}
+use Rattle.formula_fill.specs.Calls.{fillIn}
+use Rattle.fill.proofs.Fills.{the-batch}
+use Rattle.words.specs.Ten.{cursorOf}
+use Rattle.steps.specs.Answers.{stopOf, leftOf, outOf}
+use Rattle.export_formula.proofs.fen_formula_fill.Statement.{statement}
+use Rattle.export_formula.proofs.fen_formula_fill.Tie as tie
+
+taken-requires : tie.Need-taken-requires
+taken-requires c κs = search needs
+
+fill-requires : tie.Need-fill-requires
+fill-requires c κs = search needs
+
+told-batch-requires : tie.Need-told-batch-requires
+told-batch-requires c κs = search needs
+
+same-length : tie.Need-same-length
+same-length c = search needs
+
+returns : tie.Need-returns
+returns c =
+    let n = c .before .before .before .before in
+    let t = n .before .before in
+    let a = t .before .before .before .before .before .before .before .before .args in
+    let ss = four (a .s0 .now) (a .s1 .now) (a .s2 .now) (a .s3 .now) in
+    let cs = a .codes .now in
+    let l = a .cursor .now in
+    let o = a .out .now in
+    let f = fillIn ss cs (t .taken .result) (a .budget) (length o) in
+    let e : f ≡ fillIn ss cs (cursorOf l) (a .budget) (length o) = ap (λ (x : Cursor). fillIn ss cs x (a .budget) (length o)) (t .taken .ensures) in
+    let g : n .fill .result ≡ batch (fillIn ss cs (cursorOf l) (a .budget) (length o)) = the-batch f o (n .fill .ensures) ∙ ap batch e in (
+      c .told-batch .ensures .0 ∙ ap (λ (x : Batch). stopOf (x .stop) (x .count)) g,
+      (
+        c .told-batch .ensures .1 ∙ ap (λ (x : Batch). leftOf (stopOf (x .stop) (x .count)) l (x .cursor) (x .reads)) g,
+        n .fill .ensures .memory ∙ ap (λ (x : Filled). outOf x o) e,
+      ),
+    )
+
+pub fen-formula-fill-spec : {M : Type 1} → statement M
+fen-formula-fill-spec =
+    tie.close (tie.spec taken-requires fill-requires told-batch-requires same-length returns)

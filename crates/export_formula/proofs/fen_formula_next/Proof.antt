@@ -1,0 +1,36 @@
+-- `export_formula::fen_formula_next` meets its contract. Assumes nothing.
+use mathlib.Core.Path.{_≡_, ap, _∙_}
+use borrow.Author.Needs.{needs}
+use Rattle.iter.specs.declared.Cursor.{Cursor}
+use Rattle.iter.specs.declared.Step.{Step}
+use Rattle.iter.proofs.Answers.{the-step}
+use Rattle.codes.specs.Tree.{four}
+use Rattle.formula_iter.specs.Calls.{nextIn}
+use Rattle.words.specs.Ten.{cursorOf}
+use Rattle.steps.specs.Answers.{movedOf, wordsOf}
+use Rattle.export_formula.proofs.fen_formula_next.Statement.{statement}
+use Rattle.export_formula.proofs.fen_formula_next.Tie as tie
+
+taken-requires : tie.Need-taken-requires
+taken-requires c κs = search needs
+
+next-requires : tie.Need-next-requires
+next-requires c κs = search needs
+
+told-step-requires : tie.Need-told-step-requires
+told-step-requires c κs = search needs
+
+returns : tie.Need-returns
+returns c =
+    let n = c .before .before in
+    let t = n .before in
+    let a = t .before .before .before .before .before .before .before .args in
+    let ss = four (a .s0 .now) (a .s1 .now) (a .s2 .now) (a .s3 .now) in
+    let cs = a .codes .now in
+    let l = a .cursor .now in
+    let e : n .next .result ≡ nextIn ss cs (cursorOf l) (a .budget) =
+    the-step (nextIn ss cs (t .taken .result) (a .budget)) (n .next .ensures) ∙ ap (λ (x : Cursor). nextIn ss cs x (a .budget)) (t .taken .ensures) in
+    (c .told-step .ensures .0 ∙ ap movedOf e, c .told-step .ensures .1 ∙ ap (λ (x : Step). wordsOf x l) e)
+
+pub fen-formula-next-spec : {M : Type 1} → statement M
+fen-formula-next-spec = tie.close (tie.spec taken-requires next-requires told-step-requires returns)
