@@ -1,5 +1,6 @@
 //! Times the port and the unchanged crate beside each other. Each row is one piece of work done by both sides, taking turns; the figures
 //! are medians over the rounds, and both sides' sums of answers must agree.
+mod formulas;
 mod maps;
 mod members;
 mod merges;
@@ -24,6 +25,9 @@ fn main() {
             }
             if wanted("walks") {
                 walks::walks(&table, &mut Random(1), n, kind);
+            }
+            if wanted("formulas") {
+                formulas::formulas(&table, &mut Random(1), n, kind);
             }
         }
         if wanted("points") {

@@ -21,6 +21,14 @@ extern "C" {
     fn fen_start(store: *const u64, len: usize, cursor: *mut [u64; 10]) -> Step;
     fn fen_next(store: *const u64, len: usize, cursor: *mut [u64; 10], budget: u64) -> Step;
     fn fen_fill(store: *const u64, len: usize, cursor: *mut [u64; 10], budget: u64, out: *mut u32, room: usize) -> Step;
+    fn fen_formula_start(
+        codes: *const u8, count: usize, s0: *const u64, n0: usize, s1: *const u64, n1: usize, s2: *const u64, n2: usize,
+        s3: *const u64, n3: usize, cursor: *mut [u64; 10],
+    ) -> Step;
+    fn fen_formula_fill(
+        codes: *const u8, count: usize, s0: *const u64, n0: usize, s1: *const u64, n1: usize, s2: *const u64, n2: usize,
+        s3: *const u64, n3: usize, cursor: *mut [u64; 10], budget: u64, out: *mut u32, room: usize,
+    ) -> Step;
     fn fen_bitor_assign(store: *mut u64, len: usize, other: *const u64, length: usize) -> Answer;
     fn fen_bitand_assign(store: *mut u64, len: usize, other: *const u64, length: usize) -> Answer;
     fn fen_bitxor_assign(store: *mut u64, len: usize, other: *const u64, length: usize) -> Answer;
@@ -121,5 +129,32 @@ impl Store {
 
     pub fn read(&mut self, map: &[u8]) -> u64 {
         unsafe { fen_read(map.as_ptr(), map.len(), self.0.as_mut_ptr(), self.0.len()).refusal }
+    }
+}
+
+/// The sum of all ids of a formula over four stores, up to 256 members a call.
+pub fn formula_sum(codes: &[u8], s: &[Store]) -> u64 {
+    let (mut cursor, mut sum, mut out) = ([0; 10], 0, [0; 256]);
+    let (a, b, c, d) = (&s[0].0, &s[1].0, &s[2].0, &s[3].0);
+    let start = unsafe {
+        fen_formula_start(
+            codes.as_ptr(), codes.len(), a.as_ptr(), a.len(), b.as_ptr(), b.len(), c.as_ptr(), c.len(), d.as_ptr(), d.len(),
+            &mut cursor,
+        )
+    };
+    assert_eq!(start.which, 2);
+    loop {
+        let step = unsafe {
+            fen_formula_fill(
+                codes.as_ptr(), codes.len(), a.as_ptr(), a.len(), b.as_ptr(), b.len(), c.as_ptr(), c.len(), d.as_ptr(), d.len(),
+                &mut cursor, u64::MAX, out.as_mut_ptr(), out.len(),
+            )
+        };
+        sum += out[..step.value as usize].iter().map(|&id| u64::from(id)).sum::<u64>();
+        match step.which {
+            1 => {}
+            3 => return sum,
+            _ => panic!("fill over a formula: {} {}", step.which, step.value),
+        }
     }
 }
