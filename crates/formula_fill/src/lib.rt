@@ -3,6 +3,7 @@ ghost use mathlib.Core.Path.{_≡_};
 ghost use lib.ListN.{length};
 ghost use Rattle.util.specs.Outcome.{Settled};
 ghost use Rattle.iter.specs.Calls.{Fine};
+ghost use Rattle.iter.specs.Steps.{Sinks};
 ghost use Rattle.fill.specs.declared.Stop.the-variants.{Refused};
 ghost use Rattle.fill.specs.Fill.{fillFrom, batchPaper, filled};
 ghost use Rattle.codes.specs.Tree.{four};
@@ -11,6 +12,7 @@ ghost use Rattle.formula_fill.specs.Calls.{fillOf};
 use fill::Batch;
 use fill::Stop;
 use iter::Cursor;
+use iter::Sunk;
 
 // A refused fill hands its cursor back.
 fn refused(c: Cursor, no: u32) -> Batch
@@ -22,6 +24,30 @@ fn refused(c: Cursor, no: u32) -> Batch
         count: 0,
         stop: Stop::Refused(no),
     }
+}
+
+// Words are read until none is wanted or the budget is spent. A member at hand is met here, so that it costs no call.
+fn sink(
+    c: Cursor,
+    codes: &[u8],
+    n: usize,
+    s0: &[u64],
+    s1: &[u64],
+    s2: &[u64],
+    s3: &[u64],
+    spent: u64,
+    budget: u64,
+) -> Sunk
+    ensures { λ r. ⌜ Sinks (machineWord n (four (now (s0 .entry)) (now (s1 .entry)) (now (s2 .entry)) (now (s3 .entry))) (now (codes .entry))) budget spent c r ⌝ }
+{
+    let masks = c.masks;
+    if masks[0] != 0 {
+        return Sunk {
+            cursor: c,
+            reads: spent,
+        };
+    }
+    formula_iter::sink(c, codes, n, s0, s1, s2, s3, spent, budget)
 }
 
 // Fill over a formula, where nothing is refused.
@@ -43,7 +69,7 @@ fn fill_in(
     let mut spent = 0u64;
     let mut count = 0usize;
     while count < out.len() {
-        let d = formula_iter::sink(c, codes, n, s0, s1, s2, s3, spent, budget);
+        let d = sink(c, codes, n, s0, s1, s2, s3, spent, budget);
         c = d.cursor;
         spent = d.reads;
         if c.masks[0] == 0 {

@@ -127,6 +127,10 @@ sink-rests {lw} {b} {c = c} {r = r} i e = record {
   sank = λ f g. record { going = i .going f g; stopped = λ w. absurd (true≢false (sym w ∙ e)) };
 }
 
+-- a member is at hand: nothing is read
+pub sink-none : (lw : ℕ → ℕ → ℕ) (b r : ℕ) (c : Cursor) → getD (c .masks) 0 0 ≢ 0 → Sinks lw b r c (record { cursor = c; reads = r })
+sink-none lw b r c some = sink-rests (sink-start lw b r c) (ap isReading (kind-gives 3 c (low-at (sym (low-stop (c .masks) 0 3 some)))))
+
 pub sink-spent : {lw : ℕ → ℕ → ℕ} {b r₀ : ℕ} {c₀ c : Cursor} {r : ℕ} → Sinking lw b r₀ c₀ c r → b ≤ r → Sinks lw b r₀ c₀ (record { cursor = c; reads = r })
 sink-spent {lw} {b} {c = c} {r = r} i h = record {
   is = sym (sunk-spent lw c (b - r) r (omega arith)) ∙ i .left;
