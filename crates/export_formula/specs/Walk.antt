@@ -1,18 +1,9 @@
--- The walk over a formula as a C caller has it, over the four slices ss, the codes cs and the ten words l. Every definition here computes.
+-- The start of a walk over a formula as a C caller has it, over the four slices ss, the codes cs and the ten words l.
 use mathlib.Core.List.{List}
 use Prim.Native.Nat.{ℕ}
-use lib.ListN.{length}
 use Rattle.iter.specs.declared.Step.{Step}
-use Rattle.fill.specs.Fill.{Filled}
 use Rattle.words.specs.Ten.{cursorOf}
-use Rattle.formula_iter.specs.Calls.{startIn, nextIn}
-use Rattle.formula_fill.specs.Calls.{fillIn}
+use Rattle.formula_iter.specs.Calls.{startIn}
 
 abbrev pub startedOf : List (List ℕ) → List ℕ → List ℕ → Step
 startedOf ss cs l = startIn ss cs (cursorOf l)
-
-abbrev pub steppedOf : List (List ℕ) → List ℕ → List ℕ → ℕ → Step
-steppedOf ss cs l b = nextIn ss cs (cursorOf l) b
-
-abbrev pub filledOf : List (List ℕ) → List ℕ → List ℕ → ℕ → List ℕ → Filled
-filledOf ss cs l b out = fillIn ss cs (cursorOf l) b (length out)

@@ -1,4 +1,4 @@
--- `export_formula::fen_formula_fill` meets its contract. Assumes nothing.
+-- `export_formula_walk::fen_formula_fill` meets its contract. Assumes nothing.
 use mathlib.Core.List.{List}
 use mathlib.Core.Path.{_≡_, ap, _∙_}
 use Prim.Native.Nat.{ℕ}
@@ -12,8 +12,8 @@ use Rattle.formula_fill.specs.Calls.{fillIn}
 use Rattle.fill.proofs.Fills.{the-batch}
 use Rattle.words.specs.Ten.{cursorOf}
 use Rattle.steps.specs.Answers.{stopOf, leftOf, outOf}
-use Rattle.export_formula.proofs.fen_formula_fill.Statement.{statement}
-use Rattle.export_formula.proofs.fen_formula_fill.Tie as tie
+use Rattle.export_formula_walk.proofs.fen_formula_fill.Statement.{statement}
+use Rattle.export_formula_walk.proofs.fen_formula_fill.Tie as tie
 
 taken-requires : tie.Need-taken-requires
 taken-requires c κs = search needs

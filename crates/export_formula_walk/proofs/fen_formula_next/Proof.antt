@@ -1,4 +1,4 @@
--- `export_formula::fen_formula_next` meets its contract. Assumes nothing.
+-- `export_formula_walk::fen_formula_next` meets its contract. Assumes nothing.
 use mathlib.Core.Path.{_≡_, ap, _∙_}
 use borrow.Author.Needs.{needs}
 use Rattle.iter.specs.declared.Cursor.{Cursor}
@@ -8,8 +8,8 @@ use Rattle.codes.specs.Tree.{four}
 use Rattle.formula_iter.specs.Calls.{nextIn}
 use Rattle.words.specs.Ten.{cursorOf}
 use Rattle.steps.specs.Answers.{movedOf, wordsOf}
-use Rattle.export_formula.proofs.fen_formula_next.Statement.{statement}
-use Rattle.export_formula.proofs.fen_formula_next.Tie as tie
+use Rattle.export_formula_walk.proofs.fen_formula_next.Statement.{statement}
+use Rattle.export_formula_walk.proofs.fen_formula_next.Tie as tie
 
 taken-requires : tie.Need-taken-requires
 taken-requires c κs = search needs
