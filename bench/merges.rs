@@ -2,7 +2,7 @@
 use super::members::{both, members, Random};
 use super::port::Store;
 use super::table::{timed, Table};
-use hibitset::BitSet;
+use hibitset::{BitSet, BitSetLike};
 
 #[inline(never)]
 fn rust_or(set: &mut BitSet, other: &BitSet) {
@@ -55,6 +55,16 @@ fn merge(table: &Table, call: &str, kind: &str, sets: &[BitSet; 2], stores: &[St
             (time, port_digest(&all[copies - 1], n / 64))
         }),
     );
+}
+
+/// Row 20 of docs/DIFFERENCES.md, both sides.
+pub fn at_index_63() {
+    let n = 16_777_216;
+    let ((mut set, mut store), (other, lent)) = (both(n, &[5, 16_515_072]), both(n, &[5]));
+    set &= &other;
+    store.and(&lent);
+    assert!(set.contains(5) && set.is_empty() && set.iter().next().is_none());
+    assert!(store.0 == lent.0 && store.next_sum() == 5);
 }
 
 /// The three operations on two sets of one kind.
