@@ -44,7 +44,7 @@ fn merge(table: &Table, call: &str, kind: &str, sets: &[BitSet; 2], stores: &[St
                 all.iter_mut().for_each(|set| theirs(set, &sets[1]));
                 0
             });
-            (time, rust_digest(&all[copies - 1]))
+            (time, all.iter().map(rust_digest).fold(0, u64::wrapping_add))
         }),
         Box::new(|| {
             let mut all = vec![stores[0].clone(); copies];
@@ -52,7 +52,7 @@ fn merge(table: &Table, call: &str, kind: &str, sets: &[BitSet; 2], stores: &[St
                 all.iter_mut().for_each(|store| ours(store, &stores[1]));
                 0
             });
-            (time, port_digest(&all[copies - 1], n / 64))
+            (time, all.iter().map(|store| port_digest(store, n / 64)).fold(0, u64::wrapping_add))
         }),
     );
 }
