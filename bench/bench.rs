@@ -18,6 +18,7 @@ fn main() {
     let wanted = |part: &str| parts.is_empty() || parts.iter().any(|p| p == part);
     let table = table::Table { rounds };
     println!("| call | N | members | Rust ns | port ns | ratio |\n|---|---|---|---|---|---|");
+    merges::at_index_63();
     for n in [262_144, 16_777_216] {
         for kind in ["1 in 4,096", "1 in 64", "1 in 2", "runs"] {
             if wanted("points") {

@@ -1,4 +1,4 @@
-//! The chunk map: a Rust writer over layer 0, and a Rust reader that checks the same and rebuilds by words.
+//! The chunk map: a Rust writer over layer 0, and Rust readers that check the same as the port.
 use super::members::{both, members, Random};
 use super::port::Store;
 use super::table::{timed, Table};
@@ -27,7 +27,6 @@ fn number(map: &[u8], at: usize) -> u32 {
 }
 
 /// The layers of a set.
-#[derive(Clone)]
 struct Layers {
     n: u32,
     layers: [Vec<u64>; 3],
@@ -66,21 +65,48 @@ fn rust_judge(map: &[u8], n: u32) -> u64 {
     if ones == count { 0 } else { 11 }
 }
 
+/// The entries' words in layer 0, and nothing else but what `also` does of each.
+fn place(map: &[u8], set: &mut Layers, also: impl Fn(&mut Layers, usize)) {
+    set.layers.iter_mut().for_each(|layer| layer.fill(0));
+    set.top = 0;
+    for entry in map[16..16 + 12 * number(map, 8) as usize].chunks_exact(12) {
+        let q = number(entry, 0) as usize;
+        set.layers[0][q] = u64::from_le_bytes(entry[4..].try_into().unwrap());
+        also(set, q);
+    }
+}
+
+fn flags(words: &[u64]) -> u64 {
+    words.iter().enumerate().fold(0, |over, (i, &word)| over | u64::from(word != 0) << i)
+}
+
+/// The layers above layer 0 are rebuilt word by word.
 #[inline(never)]
 fn rust_read(map: &[u8], set: &mut Layers) -> u64 {
     let why = rust_judge(map, set.n);
     if why != 0 {
         return why;
     }
-    set.layers.iter_mut().for_each(|layer| layer.fill(0));
-    set.top = 0;
-    for entry in map[16..16 + 12 * number(map, 8) as usize].chunks_exact(12) {
-        let q = number(entry, 0) as usize;
-        set.layers[0][q] = u64::from_le_bytes(entry[4..].try_into().unwrap());
+    place(map, set, |_, _| ());
+    let [low, middle, high] = &mut set.layers;
+    middle.iter_mut().zip(low.chunks(64)).for_each(|(over, words)| *over = flags(words));
+    high.iter_mut().zip(middle.chunks(64)).for_each(|(over, words)| *over = flags(words));
+    set.top = flags(high);
+    0
+}
+
+/// The layers above layer 0 are marked with each entry.
+#[inline(never)]
+fn rust_read_marking(map: &[u8], set: &mut Layers) -> u64 {
+    let why = rust_judge(map, set.n);
+    if why != 0 {
+        return why;
+    }
+    place(map, set, |set, q| {
         set.layers[1][q / 64] |= 1 << (q % 64);
         set.layers[2][q / 4096] |= 1 << (q / 64 % 64);
         set.top |= 1 << (q / 4096 % 64);
-    }
+    });
     0
 }
 
@@ -103,13 +129,16 @@ pub fn maps(table: &Table, r: &mut Random, n: usize, kind: &str) {
         bytes[..length].to_vec()
     };
     let maps: Vec<Vec<u8>> = sides.iter().map(|s| map_of(&s.1)).collect();
-    let (mut set, mut store) = (Layers::new(n), Store::new(n));
-    table.row(
-        "read", n, kind, times * sides.len() * words,
-        Box::new(|| timed(|| (0..times).map(|_| maps.iter().map(|m| rust_read(m, &mut set)).sum::<u64>()).sum())),
-        Box::new(|| timed(|| (0..times).map(|_| maps.iter().map(|m| store.read(m)).sum::<u64>()).sum())),
-    );
-    let [low, middle, high] = &set.layers;
-    let layers: Vec<u64> = [&[u64::from(set.n), set.top][..], high, middle, low].concat();
-    assert!(layers == store.0, "read {n} {kind}");
+    let sides: [(&str, fn(&[u8], &mut Layers) -> u64); 2] = [("read", rust_read), ("read, marking", rust_read_marking)];
+    for (call, theirs) in sides {
+        let (mut set, mut store) = (Layers::new(n), Store::new(n));
+        table.row(
+            call, n, kind, times * maps.len() * words,
+            Box::new(|| timed(|| (0..times).map(|_| maps.iter().map(|m| theirs(m, &mut set)).sum::<u64>()).sum())),
+            Box::new(|| timed(|| (0..times).map(|_| maps.iter().map(|m| store.read(m)).sum::<u64>()).sum())),
+        );
+        let [low, middle, high] = &set.layers;
+        let layers: Vec<u64> = [&[u64::from(set.n), set.top][..], high, middle, low].concat();
+        assert!(layers == store.0, "{call} {n} {kind}");
+    }
 }

@@ -2,7 +2,7 @@
 use super::members::{both, members, Random};
 use super::port::Store;
 use super::table::{timed, Table};
-use hibitset::BitSet;
+use hibitset::{BitSet, BitSetLike};
 
 #[inline(never)]
 fn rust_or(set: &mut BitSet, other: &BitSet) {
@@ -44,7 +44,7 @@ fn merge(table: &Table, call: &str, kind: &str, sets: &[BitSet; 2], stores: &[St
                 all.iter_mut().for_each(|set| theirs(set, &sets[1]));
                 0
             });
-            (time, rust_digest(&all[copies - 1]))
+            (time, all.iter().map(rust_digest).fold(0, u64::wrapping_add))
         }),
         Box::new(|| {
             let mut all = vec![stores[0].clone(); copies];
@@ -52,9 +52,19 @@ fn merge(table: &Table, call: &str, kind: &str, sets: &[BitSet; 2], stores: &[St
                 all.iter_mut().for_each(|store| ours(store, &stores[1]));
                 0
             });
-            (time, port_digest(&all[copies - 1], n / 64))
+            (time, all.iter().map(|store| port_digest(store, n / 64)).fold(0, u64::wrapping_add))
         }),
     );
+}
+
+/// Row 20 of docs/DIFFERENCES.md, both sides.
+pub fn at_index_63() {
+    let n = 16_777_216;
+    let ((mut set, mut store), (other, lent)) = (both(n, &[5, 16_515_072]), both(n, &[5]));
+    set &= &other;
+    store.and(&lent);
+    assert!(set.contains(5) && set.is_empty() && set.iter().next().is_none());
+    assert!(store.0 == lent.0 && store.next_sum() == 5);
 }
 
 /// The three operations on two sets of one kind.

@@ -87,6 +87,13 @@ fn of(n: u32, ids: &[u32]) -> BitSet {
     set
 }
 
+fn lazy_or() {
+    let (mut set, one, two) = (of(64, &[]), of(64, &[1]), of(64, &[2]));
+    set |= &(&one & &two);
+    let words: Vec<usize> = (0..4).map(|k| set.get_from_layer(k, 0)).collect();
+    println!("17 [] or lazily [1] and [2]: {}, first words {words:?}", seen(&set, 1));
+}
+
 fn and_assign(row: u32, n: u32, first: &[u32], second: &[u32]) {
     let mut set = of(n, first);
     set &= &of(n, second);
@@ -116,6 +123,7 @@ fn main() {
     capacities();
     small_ids();
     equality();
+    lazy_or();
     and_assign(18, 262_152, &[1], &[2]);
     and_assign(19, 262_152, &[5, 262_151], &[5]);
     and_assign(20, M, &[5, 16_515_072], &[5]);

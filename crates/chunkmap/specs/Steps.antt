@@ -2,7 +2,8 @@
 use mathlib.Core.List.{List, [], _∷_, _++_}
 use mathlib.Core.Path.{_≡_}
 use Prim.Native.Nat.{ℕ, _+_, _-_, _*_, _≤_, _<_}
-use lib.ListN.{length, getD, take}
+use lib.ListN.{length, take}
+use Rattle.store.specs.Build.{flag}
 use Rattle.store.specs.Layout.{maxCap, words}
 use Rattle.chunkmap.specs.Map.{used}
 
@@ -25,18 +26,7 @@ pub record LayerOf (N : ℕ) (ws : List ℕ) : Type 0 where
 pub record Fits (ws b : List ℕ) : Type 0 where
   pub room : 16 + 12 * used ws ≤ length b
 
--- the words from q to r are zero
-abbrev pub ZeroIn : List ℕ → ℕ → ℕ → Type 0
-ZeroIn ws q r = (i : ℕ) → q ≤ i → i < r → getD ws i 0 ≡ 0
-
--- the words from q to e of a layer 0
-pub record Range (ws : List ℕ) (q e : ℕ) : Type 0 where
-  pub rise : q ≤ e
-  pub inside : e ≤ length ws
-  pub few : e ≤ 262144
-
--- those before r are zero
-pub record Skipped (ws : List ℕ) (q e r : ℕ) : Type 0 where
-  pub from : q ≤ r
-  pub upto : r ≤ e
-  pub passed : ZeroIn ws q r
+-- there is room at o for the entry of the word x, and m members are few enough to be counted on
+pub record Room (o x m : ℕ) (b : List ℕ) : Type 0 where
+  pub bytes : o + 12 * flag x ≤ length b
+  pub few : m ≤ maxCap

@@ -1,6 +1,7 @@
 // The chunk map's writer: layer 0 as bytes. Document 01, "Chunk map".
 ghost use mathlib.Core.Path.{_≡_};
 ghost use Prim.Native.Nat.{_+_, _-_, _*_, _^_, _%_, _≤_};
+ghost use lib.Count.{ones};
 ghost use lib.Dec.{leb};
 ghost use lib.ListN.{length, getD};
 ghost use lib.Seq.{sets};
@@ -10,7 +11,7 @@ ghost use Rattle.le.specs.Bytes.{le};
 ghost use Rattle.chunkmap.specs.Map.{entryOf, headOf, mapOf, mapLen, used};
 ghost use Rattle.chunkmap.specs.Answer.{wrotePaper};
 ghost use Rattle.chunkmap.specs.Calls.{writeOf};
-ghost use Rattle.chunkmap.specs.Steps.{ended, Layer0, LayerOf, Fits, Range, Skipped};
+ghost use Rattle.chunkmap.specs.Steps.{ended, Layer0, LayerOf, Fits, Room};
 
 // The length of the map, or the refusal's number.
 pub enum Wrote {
@@ -47,21 +48,6 @@ fn count_used(layer: &[u64], last: u64) -> usize
     n
 }
 
-// The first word from q on that is not zero, or `end`.
-fn next_used(layer: &[u64], q: usize, end: usize) -> usize
-    requires { ⌜ Range (now layer) q end ⌝ }
-    ensures { λ r. ⌜ Skipped (now (layer .entry)) q end r ⌝ }
-{
-    let mut i = q;
-    while i < end {
-        if layer[i] != 0 {
-            return i;
-        }
-        i += 1;
-    }
-    i
-}
-
 // Whether the map of these words has room in so many bytes. They need not be counted where there is room for all.
 fn has_room(layer: &[u64], last: u64, bytes: usize) -> bool
     requires { ⌜ Layer0 (now layer) ⌝ }
@@ -88,18 +74,27 @@ fn put(buf: &mut [u8], o: usize, n: usize, x: u64)
     }
 }
 
-// The entry of word q stands from o on, if the word is not zero; where the next one stands.
-fn put_entry(buf: &mut [u8], o: usize, q: usize, x: u64) -> usize
-    requires { ⌜ o + 12 * flag x ≤ length (now buf) ⌝ }
-    ensures at { λ r. ⌜ r ≡ o + 12 * flag x ⌝ }
+// Where the next entry stands, and the members so far.
+struct Spot {
+    at: usize,
+    members: u64,
+}
+
+// The entry of word q stands from o on, if the word is not zero, and its members are counted.
+fn put_entry(buf: &mut [u8], o: usize, q: usize, x: u64, members: u64) -> Spot
+    requires { ⌜ Room o x members (now buf) ⌝ }
+    ensures at { λ r. ⌜ r .at ≡ o + 12 * flag x ⌝ }
+    ensures members { λ r. ⌜ r .members ≡ members + ones x ⌝ }
     ensures bytes { λ r. ⌜ now (buf .exit) ≡ sets (now (buf .entry)) o (entryOf q x) ⌝ }
 {
     if x == 0 {
-        return o;
+        return Spot { at: o, members };
     }
     put(buf, o, 4, q as u64);
     put(buf, o + 4, 8, x);
-    o + 12
+    let sum = members + u64::count_ones(x) as u64;
+    let at = o + 12;
+    Spot { at, members: sum }
 }
 
 // The header.
@@ -120,18 +115,18 @@ fn put_map(layer: &[u64], last: u64, n: usize, buf: &mut [u8]) -> usize
     ensures bytes { λ r. ⌜ now (buf .exit) ≡ sets (now (buf .entry)) 0 (mapOf n (ended (now (layer .entry)) last)) ⌝ }
 {
     let end = layer.len() - 1;
-    let mut members = u64::count_ones(last) as u64;
+    let mut members = 0u64;
     let mut o = 16usize;
-    let mut q = next_used(layer, 0, end);
+    let mut q = 0usize;
     while q < end {
-        let x = layer[q];
-        members += u64::count_ones(x) as u64;
-        o = put_entry(buf, o, q, x);
-        q = next_used(layer, q + 1, end);
+        let s = put_entry(buf, o, q, layer[q], members);
+        o = s.at;
+        members = s.members;
+        q += 1;
     }
-    let e = put_entry(buf, o, q, last);
-    put_head(buf, n as u64, members, ((e - 16) / 12) as u64);
-    e
+    let s = put_entry(buf, o, q, last, members);
+    put_head(buf, n as u64, s.members, ((s.at - 16) / 12) as u64);
+    s.at
 }
 
 // Writes the map of a store's members over the front of buf. Layer 0 alone is read, so the map is right on an unsound store too.

@@ -1,9 +1,10 @@
 -- `chunkmap::put_entry` meets its contract. Assumes nothing.
 use mathlib.Core.List.{List}
-use mathlib.Core.Path.{sym, ap, _∙_}
-use Prim.Native.Nat.{ℕ, _+_}
+use mathlib.Core.Path.{refl, sym, ap, _∙_}
+use Prim.Native.Nat.{ℕ, _+_, _≤_}
 use native.Mathlib.Omega.{arith}
 use borrow.Author.Needs.{needs}
+use lib.Count.{ones, ones-le}
 use lib.ListN.{length}
 use lib.Seq.{sets, length-sets}
 use Rattle.store.proofs.Build.{flag-zero, flag-one}
@@ -14,13 +15,15 @@ use Rattle.chunkmap.proofs.put_entry.Tie as tie
 
 returns : tie.Need-returns
 returns c =
-    let a = c .before .before .args in
-    (omega (arith, flag-zero (a .x) (c .if1 .taken)), sym (entry-none (a .buf .now) (a .o) (a .q) (a .x) (c .if1 .taken)))
+    let a = c .before .before .args in (
+      omega (arith, flag-zero (a .x) (c .if1 .taken)),
+      (omega (arith, ones-le 0 (a .x) (omega (arith, c .if1 .taken))), sym (entry-none (a .buf .now) (a .o) (a .q) (a .x) (c .if1 .taken))),
+    )
 
 put-requires : tie.Need-put-requires
 put-requires c κs =
     let n = c .before in
-    omega (arith, flag-one (n .before .before .args .x) (n .if1 .left), n .before .before .pre)
+    omega (arith, flag-one (n .before .before .args .x) (n .if1 .left), n .before .before .pre .bytes)
 
 add-put : tie.Need-add-put
 add-put c = search needs
@@ -30,10 +33,20 @@ put-requires-2 c κs =
     let p1 = c .before .before .before in
     let n = p1 .before .before in
     let a = n .before .before .args in
-    omega (arith, flag-one (a .x) (n .if1 .left), n .before .before .pre, ap length (p1 .put .ensures), length-sets (a .buf .now) (a .o) (le 4 (a .q)))
+    omega (arith, flag-one (a .x) (n .if1 .left), n .before .before .pre .bytes, ap length (p1 .put .ensures), length-sets (a .buf .now) (a .o) (le 4 (a .q)))
 
-add-result : tie.Need-add-result
-add-result c = search needs
+-- a word has 64 members at most
+few : (c : tie.Start) → ones (c .args .x) ≤ 64
+few c = ones-le 64 (c .args .x) (omega (arith, c .fits .x))
+
+cast-sum : tie.Need-cast-sum
+cast-sum c = omega (arith, few (c .before .before .before .before .before .before .before .before .before .before))
+
+add-sum : tie.Need-add-sum
+add-sum c = let s = c .before .before .before .before .before .before .before .before .before .before in omega (arith, few s, s .pre .few)
+
+add-at : tie.Need-add-at
+add-at c = search needs
 
 same-length : tie.Need-same-length
 same-length c = search needs
@@ -45,9 +58,14 @@ returns-2 c =
     let n = p1 .before .before in
     let a = n .before .before .args in (
       omega (arith, flag-one (a .x) (n .if1 .left)),
-      p2 .put2 .ensures ∙ ap (λ (x : List ℕ). sets x (a .o + 4) (le 8 (a .x))) (p1 .put .ensures)
-          ∙ sym (entry-some (a .buf .now) (a .o) (a .q) (a .x) (n .if1 .left)),
+      (
+        refl,
+        p2 .put2 .ensures ∙ ap (λ (x : List ℕ). sets x (a .o + 4) (le 8 (a .x))) (p1 .put .ensures)
+            ∙ sym (entry-some (a .buf .now) (a .o) (a .q) (a .x) (n .if1 .left)),
+      ),
     )
 
 pub put-entry-spec : {M : Type 1} → statement M
-put-entry-spec = tie.close (tie.spec returns put-requires add-put put-requires-2 add-result same-length returns-2)
+put-entry-spec =
+    tie.close
+    (tie.spec returns put-requires add-put put-requires-2 cast-sum add-sum add-at same-length returns-2)
