@@ -4,8 +4,9 @@ use mathlib.Core.Path.{_≡_}
 use Prim.Native.Nat.{ℕ, _≤_, _<_}
 use native.Mathlib.Omega.{arith}
 use borrow.Author.Tests.{lt-ltb, le-ltb, ne-eqb}
-use Rattle.bitset.specs.Calls.{containsOf}
-use Rattle.whole.specs.Calls.{isEmptyOf, equalOf}
+use Rattle.members.specs.Calls.{containsOf}
+use Rattle.whole.specs.Calls.{isEmptyOf}
+use Rattle.same.specs.Calls.{equalOf}
 use Rattle.summary.specs.Calls.{isSoundOf}
 use Rattle.free.specs.Calls.{firstFreeOf}
 use Rattle.superset.specs.Calls.{containsSetOf}

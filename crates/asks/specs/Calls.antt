@@ -5,8 +5,9 @@ use mathlib.Core.Bool.{cond}
 use mathlib.Core.List.{List}
 use Prim.Native.Nat.{ℕ}
 use lib.Dec.{eqb}
-use Rattle.bitset.specs.Calls.{containsOf}
-use Rattle.whole.specs.Calls.{isEmptyOf, equalOf}
+use Rattle.members.specs.Calls.{containsOf}
+use Rattle.whole.specs.Calls.{isEmptyOf}
+use Rattle.same.specs.Calls.{equalOf}
 use Rattle.summary.specs.Calls.{isSoundOf}
 use Rattle.free.specs.Calls.{firstFreeOf}
 use Rattle.superset.specs.Calls.{containsSetOf}
@@ -40,11 +41,11 @@ ask1Of s w =
     (cond (eqb w sound) (saidOf (isSoundOf s .numbers))
     (cond (eqb w free) (saidOf (firstFreeOf s .numbers)) unknown))
 
--- "`contains S I`: `bitset::contains`"
+-- "`contains S I`: `members::contains`"
 unfoldable pub heldOf : List ℕ → ℕ → Said
 heldOf s i = cond (isId i) (saidOf (containsOf s i .numbers)) unknown
 
--- "`equal S T`: `whole::equal`. `superset S T`: `superset::contains_set`"
+-- "`equal S T`: `same::equal`. `superset S T`: `superset::contains_set`"
 unfoldable pub bothOf : List ℕ → List ℕ → ℕ → Said
 bothOf s t w =
     cond (eqb w equal) (saidOf (equalOf s t .numbers))

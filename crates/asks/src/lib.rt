@@ -26,7 +26,7 @@ fn held(part: &[u64], i: u64) -> Said
     if LAST_ID < i {
         return said::unknown();
     }
-    said::asked(bitset::contains(part, i as u32))
+    said::asked(members::contains(part, i as u32))
 }
 
 // equal S T, superset S T
@@ -34,7 +34,7 @@ fn both(part: &[u64], other: &[u64], word: u64) -> Said
     ensures { λ r. ⌜ r ≡ bothOf (now (part .entry)) (now (other .entry)) word ⌝ }
 {
     match word {
-        EQUAL => said::asked(whole::equal(part, other)),
+        EQUAL => said::asked(same::equal(part, other)),
         SUPERSET => said::asked(superset::contains_set(part, other)),
         _ => said::unknown(),
     }

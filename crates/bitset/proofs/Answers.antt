@@ -18,15 +18,11 @@ use Rattle.store.specs.declared.Asked.{Asked}
 use Rattle.store.specs.declared.Asked.the-variants.{Is, Refused as AskedRefused}
 use Rattle.store.specs.declared.Did.the-variants.{Done, Refused as DidRefused}
 use Rattle.store.proofs.Geometry.{is-store}
-use Rattle.bitset.specs.Calls.{containsOf, moveOf, allBelow, addAll, addListOf}
-use Rattle.bitset.specs.Edit.{holds, edits, addLayers, climb, removeLayers, layersOf, Placed, Moved}
-use Rattle.bitset.specs.Place.{Outside, stays}
+use Rattle.members.specs.Calls.{holds}
+use Rattle.members.specs.Place.{Placed, Outside}
+use Rattle.bitset.specs.Calls.{stays, moveOf, allBelow, addAll, addListOf}
+use Rattle.bitset.specs.Edit.{edits, addLayers, climb, removeLayers, layersOf, Moved}
 use Rattle.bitset.proofs.Moves.{add-none, add-all, add-one-layer, remove-none, remove-some}
-
--- the code's test of the id's bit in its word
-pub has-is : (N : ℕ) (s : List ℕ) (i w : ℕ) (r : Bool) → w ≡ word N s 0 (i / 64) → r ≡ eqb (bit w (i % 64)) 1 → r ≡ holds N s i
-unfolding on
-has-is N s i w r e q = q ∙ ap (λ (x : ℕ). eqb (bit x (i % 64)) 1) e
 
 -- ---- the private steps
 
@@ -54,22 +50,6 @@ module _ {s : List ℕ} {N i : ℕ} where
 -- ---- one id: in no store, past the end of one, and in one
 
 module _ (s : List ℕ) (i : ℕ) where
-  pub contains-2 : isStore s ≡ false → Settled askedPaper (containsOf s i) (AskedRefused 2) tt
-  unfolding containsOf
-  contains-2 h = settled (rw h)
-
-  pub contains-past : Outside s i → Settled askedPaper (containsOf s i) (Is false) tt
-  unfolding containsOf
-  contains-past o = settled (rw (is-store (o .store), o .store .names, o .past))
-
-  module _ (N : ℕ) (z : Placed s N i 0) where
-    in-room : ltb i N ≡ true
-    in-room = lt-ltb i N (z .below)
-
-    pub contains-is : (r : Bool) → r ≡ holds N s i → Settled askedPaper (containsOf s i) (Is r) tt
-    unfolding containsOf
-    contains-is r e = settled (rw (is-store (z .store), z .store .names, in-room, ← e))
-
   module _ (set : Bool) (past : Asked) where
     pub change-2 : isStore s ≡ false → Settled askedPaper (moveOf set (stays past s) s i) (AskedRefused 2) s
     unfolding moveOf
@@ -82,7 +62,7 @@ module _ (s : List ℕ) (i : ℕ) where
     pub change-is : (N : ℕ) → Placed s N i 0 → (r : Bool) (t : List ℕ) → Moved set s N i (layersOf set N s i) t r
         → Settled askedPaper (moveOf set (stays past s) s i) (Is r) t
     unfolding moveOf
-    change-is N z r t m = settled (rw (is-store (z .store), z .store .names, in-room N z, ← m .answer, ← m .memory))
+    change-is N z r t m = settled (rw (is-store (z .store), z .store .names, lt-ltb i N (z .below), ← m .answer, ← m .memory))
 
 -- ---- a list of ids
 

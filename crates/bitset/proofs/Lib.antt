@@ -1,5 +1,4 @@
 pub mod Edits
 pub mod Moves
 pub mod Steps
-pub mod Places
 pub mod Answers

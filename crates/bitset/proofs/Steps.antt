@@ -14,7 +14,9 @@ use Rattle.store.specs.Word.{word, anc, put}
 use Rattle.store.proofs.Ends.{Part, part}
 use Rattle.store.proofs.Geometry.{store-kept}
 use Rattle.store.proofs.Words.{word-in, word-put-same, place-in, anc-in, anc-shift}
-use Rattle.bitset.specs.Edit.{edit, edits, left, climb, Placed, Edited}
+use Rattle.members.specs.Place.{Placed}
+use Rattle.members.proofs.Spots.{spot, ranged, word-there}
+use Rattle.bitset.specs.Edit.{edit, edits, left, climb, Edited}
 use Rattle.bitset.proofs.Edits.{length-edits, cap-edits, word-edits-same}
 use Rattle.bitset.proofs.Moves.{climb-on, climb-stop, climb-top}
 
@@ -27,52 +29,16 @@ layer-lt p = omega (arith, p .layer)
 pub in-part : (a e i : ℕ) (xs : List ℕ) → a + i < e → e ≤ length xs → i < length (take (e - a) (drop a xs))
 in-part a e i xs h l = omega (arith, length-take (e - a) (drop a xs), length-drop a xs)
 
--- the word over id i in layer k: where it stands in the store and in the layer
-pub record Spot (s : List ℕ) (N i k : ℕ) : Type 0 where
-  pub at : Part N s k
-  pub here : i / 2 ^ (6 * (k + 1)) ≡ anc i k / 64
-  pub in-layer : anc i k / 64 < layerLen N k
-
-pub spot : {s : List ℕ} {N i k : ℕ} → Placed s N i k → Spot s N i k
-unfolding anc
-spot {s} {N} {i} {k} p =
-    record {
-      at = part (p .store) k (p .layer);
-      here = ap (λ (x : ℕ). i / 2 ^ (6 * x)) (add-one k) ∙ sym (anc-shift i (suc k));
-      in-layer = place-in N k (anc i k) (anc-in N i k (p .below));
-    }
-
--- the same at the code's numbers: a is where the layer starts, e where it ends, q the word in it
+-- the word over an id at the code's numbers: a is where the layer starts, e where it ends, q the word in it
 module _ {s : List ℕ} {N i k : ℕ} (p : Placed s N i k) (a e q : ℕ)
     (a-is : a ≡ endOf N (k + 1)) (e-is : e ≡ endOf N k) (q-is : q ≡ i / 2 ^ (6 * (k + 1))) where
-  pub record Ranged : Type 0 where
-    pub start : a ≡ layerStart N k
-    pub index : q ≡ anc i k / 64
-    pub part-in : a + q < e
-    pub end-in : e ≤ length s
-
-  pub ranged : Ranged
-  ranged =
-      let z = spot p in
-      record {
-        start = a-is ∙ z .at .starts;
-        index = q-is ∙ z .here;
-        part-in = omega (arith, a-is, z .at .starts, e-is, z .at .ends, q-is, z .here, z .in-layer, z .at .size);
-        end-in = omega (arith, e-is, z .at .ends, z .at .inside);
-      }
-
-  pub word-there : getD s (a + q) 0 ≡ word N s k (anc i k / 64)
-  word-there =
-      let r = ranged in
-      ap₂ (λ (x y : ℕ). getD s (x + y) 0) (r .start) (r .index) ∙ sym (word-in N s k (anc i k / 64) (spot p .in-layer))
-
   -- what the code writes
   pub edited : (on : Bool) (b w : ℕ) (t : List ℕ) → b ≡ i / 2 ^ (6 * k) → w ≡ change on (getD s (a + q) 0) (b % 64) → t ≡ set s (a + q) w → Edited on s N i k t w
   unfolding edit put
   edited on b w t b-is w-is t-is =
-      let r = ranged in
+      let r = ranged p a e q a-is e-is q-is in
       let v : w ≡ change on (word N s k (anc i k / 64)) (anc i k % 64) =
-      w-is ∙ ap₂ (λ (x y : ℕ). change on x (y % 64)) word-there (b-is ∙ sym (anc-shift i k)) in
+      w-is ∙ ap₂ (λ (x y : ℕ). change on x (y % 64)) (word-there p a e q a-is e-is q-is) (b-is ∙ sym (anc-shift i k)) in
       let m : t ≡ edit on N s k (anc i k) = t-is ∙ (λ j. set s (r .start j + r .index j) (v j)) in
       record {
         memory = m;

@@ -1,16 +1,20 @@
--- What each call on one store does, for all inputs. Document 01, "Calls on one store", and its refusals.
+-- What each call that changes ids does, for all inputs. Document 01, "Calls on one store", and its refusals. What `contains` says is
+-- passed on with it.
 use mathlib.Core.Bool.{Bool, true, false, cond, _&&_}
 use mathlib.Core.List.{List, [], _∷_}
 use Prim.Native.Nat.{ℕ}
 use lib.Dec.{ltb}
 use Rattle.util.specs.Outcome.{Outcome}
-use Rattle.store.specs.Answer.{says, does, refuses}
+use Rattle.store.specs.Answer.{askedPaper, says, does, refuses}
 use Rattle.store.specs.Layout.{cap, isStore}
-use Rattle.bitset.specs.Edit.{holds, edits, addLayers, layersOf}
+use Rattle.store.specs.declared.Asked.{Asked}
+use Rattle.members.specs.Calls.{holds}
+unfoldable pub use Rattle.members.specs.Calls.{containsOf}
+use Rattle.bitset.specs.Edit.{edits, addLayers, layersOf}
 
--- "`contains` .. for an id at or past N answer[s] no"
-unfoldable pub containsOf : List ℕ → ℕ → Outcome (Unit {0})
-containsOf s i = cond (isStore s) (says (ltb i (cap s) && holds (cap s) s i) tt) (refuses 2 tt)
+-- an answer that changes nothing
+abbrev pub stays : Asked → List ℕ → Outcome (List ℕ)
+stays r s = record { numbers = askedPaper .numbers r; lent = s }
 
 -- An id added, or removed, where it has room; the answer is whether it was held. At or past N the outcome is `past`.
 unfoldable pub moveOf : Bool → Outcome (List ℕ) → List ℕ → ℕ → Outcome (List ℕ)

@@ -3,12 +3,13 @@
 use mathlib.Core.Bool.{Bool, true, false, cond}
 use mathlib.Core.List.{List}
 use mathlib.Core.Path.{_≡_}
-use Prim.Native.Nat.{ℕ, zero, suc, _/_, _%_, _≤_, _<_}
+use Prim.Native.Nat.{ℕ, zero, suc, _/_, _%_}
 use lib.Dec.{eqb}
 use lib.ListN.{getD, set}
 use Rattle.util.specs.Word.{change}
-use Rattle.store.specs.Layout.{top, StoreOf}
-use Rattle.store.specs.Word.{word, on, anc, put}
+use Rattle.store.specs.Layout.{top}
+use Rattle.store.specs.Word.{word, anc, put}
+use Rattle.members.specs.Calls.{holds}
 
 -- the store with the bit at place p of layer k set, or cleared
 unfoldable pub edit : Bool → ℕ → List ℕ → ℕ → ℕ → List ℕ
@@ -18,10 +19,6 @@ edit set N s k p = put N s k (p / 64) (change set (word N s k (p / 64)) (p % 64)
 unfoldable pub edits : Bool → ℕ → List ℕ → ℕ → ℕ → List ℕ
 edits set N s i zero = s
 edits set N s i (suc m) = edit set N (edits set N s i m) m (anc i m)
-
--- whether id i is held
-abbrev pub holds : ℕ → List ℕ → ℕ → Bool
-holds N s i = eqb (on N s 0 i) 1
 
 -- The layers that adding i writes: none if it is held; all if its layer-0 word was 0, "when the lowest layer was set from 0" (the crate);
 -- else layer 0 alone.
@@ -47,12 +44,7 @@ abbrev pub layersOf : Bool → ℕ → List ℕ → ℕ → ℕ
 layersOf true = addLayers
 layersOf false = removeLayers
 
--- ---- what the private steps ask and leave: s is a store of capacity N, with room for id i
-
-pub record Placed (s : List ℕ) (N i k : ℕ) : Type 0 where
-  pub store : StoreOf N s
-  pub below : i < N
-  pub layer : k ≤ top N
+-- ---- what the private steps leave: s is a store of capacity N, with room for id i
 
 -- bit b of word i of a layer is set, or cleared, and r is the word that it leaves
 pub record Written (on : Bool) (l : List ℕ) (i b : ℕ) (m : List ℕ) (r : ℕ) : Type 0 where

@@ -1,3 +1,2 @@
 pub mod Edit
-pub mod Place
 pub mod Calls

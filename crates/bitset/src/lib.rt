@@ -1,4 +1,5 @@
-// The set over one lent store: the Rust's lib.rs, `BitSet`. Every call tests the store itself and refuses by number.
+// Changing the set over one lent store: the Rust's lib.rs, `BitSet`. Every call tests the store itself and refuses by number. `contains`
+// of `members` is passed on, for the calls for C.
 ghost use mathlib.Core.Bool.{Bool, true, false};
 ghost use mathlib.Core.Path.{_≡_};
 ghost use Prim.Native.Nat.{ℕ, suc, _/_, _≤_, _<_};
@@ -8,48 +9,13 @@ ghost use Rattle.util.specs.Outcome.{Settled};
 ghost use Rattle.store.specs.Answer.{askedPaper, didPaper};
 ghost use Rattle.store.specs.Layout.{top, StoreOf};
 ghost use Rattle.store.specs.Word.{word};
-ghost use Rattle.bitset.specs.Edit.{edits, addLayers, climb, removeLayers, Placed, Written, Edited, Moved};
-ghost use Rattle.bitset.specs.Place.{Located};
-ghost use Rattle.bitset.specs.Calls.{containsOf, addOf, removeOf, allBelow, addAll, addListOf};
+ghost use Rattle.members.specs.Place.{Placed, Inside};
+ghost use Rattle.bitset.specs.Edit.{edits, addLayers, climb, removeLayers, Written, Edited, Moved};
+ghost use Rattle.bitset.specs.Calls.{addOf, removeOf, allBelow, addAll, addListOf};
+use members::Place;
+pub use members::contains;
 use store::Asked;
 use store::Did;
-
-// Whether an id has room: ids stop below the capacity.
-fn has_room(id: u32, n: usize) -> bool
-    ensures { λ r. ⌜ r ≡ ltb id n ⌝ }
-{
-    (id as usize) < n
-}
-
-// Where an id stands: in a store of so many ids, past its end, or in no store.
-enum Place {
-    In(usize),
-    Past,
-    Nowhere,
-}
-
-// The tests that every call on an id begins with.
-fn locate(store: &[u64], id: u32) -> Place
-    ensures { λ r. ⌜ Located (now (store .entry)) id r ⌝ }
-{
-    let n = store::capacity(store);
-    if n == 0 {
-        return Place::Nowhere;
-    }
-    if has_room(id, n) {
-        Place::In(n)
-    } else {
-        Place::Past
-    }
-}
-
-// The layer-0 word of an id.
-fn word0(store: &[u64], n: usize, id: u32) -> u64
-    requires { ⌜ Placed (now store) n id 0 ⌝ }
-    ensures { λ r. ⌜ r ≡ word n (now (store .entry)) 0 (id / 64) ⌝ }
-{
-    store[store::end(n, 1) + util::offset(id, util::SHIFT1)]
-}
 
 // The word-writing leaf: a bit of word i of a layer, lent as a part of its store, set or cleared; answers the word that it leaves.
 fn set_bit(layer: &mut [u64], i: usize, b: usize, on: bool) -> u64
@@ -102,12 +68,11 @@ fn unmark(store: &mut [u64], n: usize, id: u32)
     edit(store, n, id, 3, false);
 }
 
-// The crate's `add` and `add_slow`: layer 0 or, where its word was 0, every layer is written; answers whether the id was held.
-fn add_in(store: &mut [u64], n: usize, id: u32) -> bool
-    requires { ⌜ Placed (now store) n id 0 ⌝ }
+// The crate's `add` and `add_slow`: layer 0 or, where its old word was 0, every layer is written; answers whether the id was held.
+fn add_in(store: &mut [u64], n: usize, id: u32, old: u64) -> bool
+    requires { ⌜ Inside (now store) id n old ⌝ }
     ensures { λ r. ⌜ Moved true (now (store .entry)) n id (addLayers n (now (store .entry)) id) (now (store .exit)) r ⌝ }
 {
-    let old = word0(store, n, id);
     if util::is_set(old, id as usize) {
         return true;
     }
@@ -120,34 +85,23 @@ fn add_in(store: &mut [u64], n: usize, id: u32) -> bool
 }
 
 // The crate's `remove`; answers whether the id was held.
-fn remove_in(store: &mut [u64], n: usize, id: u32) -> bool
-    requires { ⌜ Placed (now store) n id 0 ⌝ }
+fn remove_in(store: &mut [u64], n: usize, id: u32, old: u64) -> bool
+    requires { ⌜ Inside (now store) id n old ⌝ }
     ensures { λ r. ⌜ Moved false (now (store .entry)) n id (removeLayers n (now (store .entry)) id) (now (store .exit)) r ⌝ }
 {
-    if !util::is_set(word0(store, n, id), id as usize) {
+    if !util::is_set(old, id as usize) {
         return false;
     }
     unmark(store, n, id);
     true
 }
 
-// Whether the id is a member: below the capacity, with its layer-0 bit set.
-pub fn contains(store: &[u64], id: u32) -> Asked
-    ensures { λ r. ⌜ Settled askedPaper (containsOf (now (store .entry)) id) r tt ⌝ }
-{
-    match locate(store, id) {
-        Place::In(n) => Asked::Is(util::is_set(word0(store, n, id), id as usize)),
-        Place::Past => Asked::Is(false),
-        Place::Nowhere => Asked::Refused(2),
-    }
-}
-
 // Adds an id; answers whether it was held already.
 pub fn add(store: &mut [u64], id: u32) -> Asked
     ensures { λ r. ⌜ Settled askedPaper (addOf (now (store .entry)) id) r (now (store .exit)) ⌝ }
 {
-    match locate(store, id) {
-        Place::In(n) => Asked::Is(add_in(store, n, id)),
+    match members::locate(store, id) {
+        Place::In(n, old) => Asked::Is(add_in(store, n, id, old)),
         Place::Past => Asked::Refused(3),
         Place::Nowhere => Asked::Refused(2),
     }
@@ -157,8 +111,8 @@ pub fn add(store: &mut [u64], id: u32) -> Asked
 pub fn remove(store: &mut [u64], id: u32) -> Asked
     ensures { λ r. ⌜ Settled askedPaper (removeOf (now (store .entry)) id) r (now (store .exit)) ⌝ }
 {
-    match locate(store, id) {
-        Place::In(n) => Asked::Is(remove_in(store, n, id)),
+    match members::locate(store, id) {
+        Place::In(n, old) => Asked::Is(remove_in(store, n, id, old)),
         Place::Past => Asked::Is(false),
         Place::Nowhere => Asked::Refused(2),
     }
@@ -170,7 +124,7 @@ fn all_below(ids: &[u32], n: usize) -> bool
 {
     let mut i = 0;
     while i < ids.len() {
-        if !has_room(ids[i], n) {
+        if !members::has_room(ids[i], n) {
             return false;
         }
         i += 1;
@@ -185,7 +139,9 @@ fn add_all(store: &mut [u64], n: usize, ids: &[u32])
 {
     let mut i = 0;
     while i < ids.len() {
-        add_in(store, n, ids[i]);
+        let id = ids[i];
+        let old = store[store::end(n, 1) + util::offset(id, util::SHIFT1)];
+        add_in(store, n, id, old);
         i += 1;
     }
 }

@@ -14,7 +14,8 @@ use Rattle.store.specs.Layout.{top, room, span, layerEnd, cap, isCap, isStore, 
 use Rattle.store.specs.Word.{members, Words64}
 use Rattle.store.proofs.Geometry.{is-store}
 use Rattle.bitset.specs.Calls.{moveOf, addOf, removeOf}
-use Rattle.bitset.specs.Edit.{holds, edits, layersOf}
+use Rattle.members.specs.Calls.{holds}
+use Rattle.bitset.specs.Edit.{edits, layersOf}
 use Rattle.bitset.proofs.Edits.{cap-edits, length-edits}
 use Rattle.sets.proofs.Theorems.{sound-after-add, sound-after-remove}
 use Rattle.whole.specs.Calls.{openOf}

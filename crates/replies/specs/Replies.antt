@@ -9,7 +9,8 @@ use Rattle.store.specs.Answer.{askedPaper}
 use Rattle.store.specs.Build.{empty}
 use Rattle.store.specs.Layout.{cap, isStore}
 use Rattle.store.specs.Word.{Sound}
-use Rattle.bitset.specs.Calls.{addOf, removeOf, containsOf}
+use Rattle.members.specs.Calls.{containsOf}
+use Rattle.bitset.specs.Calls.{addOf, removeOf}
 use Rattle.text.specs.Out.{decimalOf}
 use Rattle.listed.specs.Members.{membersOf}
 use Rattle.printed.specs.Reply.{replyOf}

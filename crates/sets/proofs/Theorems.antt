@@ -17,8 +17,9 @@ use Rattle.store.specs.Answer.{says, refuses}
 use Rattle.store.specs.Layout.{top, cap, isStore, StoreOf}
 use Rattle.store.specs.Word.{on, Member, Sound}
 use Rattle.store.proofs.Geometry.{is-store, store-is, store-kept}
-use Rattle.bitset.specs.Calls.{containsOf, moveOf, addOf, removeOf, allBelow, addAll, addListOf}
-use Rattle.bitset.specs.Edit.{holds, edits, addLayers, removeLayers, layersOf}
+use Rattle.members.specs.Calls.{holds, containsOf}
+use Rattle.bitset.specs.Calls.{moveOf, addOf, removeOf, allBelow, addAll, addListOf}
+use Rattle.bitset.specs.Edit.{edits, addLayers, removeLayers, layersOf}
 use Rattle.bitset.proofs.Edits.{length-edits, cap-edits}
 use Rattle.sets.proofs.Moves.{sound-add, sound-remove, on-add, on-remove}
 

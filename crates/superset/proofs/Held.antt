@@ -10,7 +10,7 @@ use Rattle.store.specs.Answer.{askedPaper}
 use Rattle.store.specs.Layout.{isStore}
 use Rattle.store.specs.declared.Asked.{Asked}
 use Rattle.store.specs.declared.Asked.the-variants.{Is, Refused}
-use Rattle.bitset.specs.Calls.{containsOf}
+use Rattle.members.specs.Calls.{containsOf}
 use Rattle.superset.specs.Calls.{isMember, allHeld}
 
 -- the value of an answer; no for a refusal

@@ -15,7 +15,7 @@ use Rattle.store.specs.Word.{on, Member, Sound, Words64}
 use Rattle.store.specs.declared.Asked.the-variants.{Is}
 use Rattle.store.proofs.Geometry.{store-is}
 use Rattle.store.proofs.Members.{members-are}
-use Rattle.bitset.specs.Edit.{holds}
+use Rattle.members.specs.Calls.{holds}
 use Rattle.iter.specs.declared.Cursor.{Cursor}
 use Rattle.demand.specs.Walks.{walkOn}
 use Rattle.demand.proofs.Store.{walk-defined, ids-members}

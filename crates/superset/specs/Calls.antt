@@ -6,7 +6,7 @@ use lib.Dec.{ltb, eqb}
 use Rattle.util.specs.Outcome.{Outcome}
 use Rattle.store.specs.Answer.{says, refuses}
 use Rattle.store.specs.Layout.{cap, isStore}
-use Rattle.bitset.specs.Edit.{holds}
+use Rattle.members.specs.Calls.{holds}
 use Rattle.batches.specs.Steps.{walked}
 
 -- "An id is a member if it is below N and its layer-0 bit is set."

@@ -13,7 +13,7 @@ fn is_member(store: &[u64], id: u32) -> bool
     requires { ⌜ isStore (now store) ≡ true ⌝ }
     ensures { λ r. ⌜ r ≡ isMember (now (store .entry)) id ⌝ }
 {
-    match bitset::contains(store, id) {
+    match members::contains(store, id) {
         Asked::Is(yes) => yes,
         Asked::Refused(_) => false,
     }

@@ -1,5 +1,5 @@
 -- What each way out of the code answers is what the definition answers there.
-use mathlib.Core.Bool.{Bool, true, false, cond, _&&_}
+use mathlib.Core.Bool.{true, false, cond}
 use mathlib.Core.List.{List, []}
 use mathlib.Core.Logic.{_≢_}
 use mathlib.Core.Path.{_≡_, refl, sym, ap, _∙_}
@@ -9,7 +9,6 @@ use borrow.Author.Tests.{eq-eqb, ne-eqb}
 use lib.Dec.{leb, eqb}
 use lib.ListN.{length, getD, set, replicate}
 use Rattle.util.specs.Outcome.{Outcome, Settled, settled}
-use Rattle.util.specs.Word.{same}
 use Rattle.store.specs.Answer.{askedPaper, didPaper, says, does, refuses}
 use Rattle.store.specs.Build.{empty}
 use Rattle.store.specs.Layout.{header, top, maxCap, isCap, room, layerEnd, storeLen, cap, isStore, StoreOf, endOf}
@@ -19,7 +18,7 @@ use Rattle.store.specs.declared.Did.the-variants.{Done, Refused as DidRefused}
 use Rattle.store.proofs.Ends.{end-is, end-cap, end-above}
 use Rattle.store.proofs.Geometry.{is-store, after-header, end-top, room-falls}
 use Rattle.store.proofs.Words.{word-in}
-use Rattle.whole.specs.Calls.{openOf, clearOf, isEmptyOf, equalOf}
+use Rattle.whole.specs.Calls.{openOf, clearOf, isEmptyOf}
 
 -- zeros, with the capacity in word 0, are the empty store
 pub empty-is : (N n : ℕ) → n ≡ storeLen N → set (replicate n 0) 0 N ≡ empty N
@@ -45,7 +44,7 @@ module _ (s : List ℕ) (N : ℕ) where
         let long : length s ≡ storeLen N = l ∙ end-cap N 0 h in
         settled (rw (h, eq-eqb (length s) (storeLen N) long) (ap does (sym (e ∙ empty-is N (length s) long))))
 
--- ---- the others
+-- ---- clear, is_empty
 
 module _ (s : List ℕ) (h : isStore s ≡ false) where
   pub clear-2 : Settled didPaper (clearOf s) (DidRefused 2) s
@@ -55,10 +54,6 @@ module _ (s : List ℕ) (h : isStore s ≡ false) where
   pub is-empty-2 : Settled askedPaper (isEmptyOf s) (AskedRefused 2) tt
   unfolding isEmptyOf
   is-empty-2 = settled (rw h)
-
-  pub equal-first-2 : (t : List ℕ) → Settled askedPaper (equalOf s t) (AskedRefused 2) tt
-  unfolding equalOf
-  equal-first-2 t = settled (rw h)
 
 module _ {N : ℕ} {s : List ℕ} (z : StoreOf N s) where
   pub clear-done : (t : List ℕ) → t ≡ set (replicate (length s) 0) 0 N → Settled didPaper (clearOf s) Done t
@@ -72,19 +67,3 @@ module _ {N : ℕ} {s : List ℕ} (z : StoreOf N s) where
       let e : a ≡ layerEnd N 4 + 0 = omega (arith, a-is, end-is N 4 (z .some) (z .most)) in
       let q : word N s 3 0 ≡ w = word-in N s 3 0 (omega (arith, room-falls N 4 (z .some))) ∙ sym (w-is ∙ ap (λ (x : ℕ). getD s x 0) e) in
       settled (rw (is-store z, z .names, q))
-
-  pub equal-second-2 : (t : List ℕ) → isStore t ≡ false → Settled askedPaper (equalOf s t) (AskedRefused 2) tt
-  unfolding equalOf
-  equal-second-2 t h = settled (rw (is-store z, h))
-
-  module _ {M : ℕ} {t : List ℕ} (y : StoreOf M t) where
-    pub equal-5 : N ≢ M → Settled askedPaper (equalOf s t) (AskedRefused 5) tt
-    unfolding equalOf
-    equal-5 n = settled (rw (is-store z, is-store y, z .names, y .names, ne-eqb N M n))
-
-    pub equal-is : (r : Bool) → N ≡ M → r ≡ same s t → Settled askedPaper (equalOf s t) (Is r) tt
-    unfolding equalOf
-    equal-is r e q = settled (rw (is-store z, is-store y, z .names, y .names, eq-eqb N M e, ← q))
-
-    pub same-long : N ≡ M → length s ≡ length t
-    same-long e = z .long ∙ ap storeLen e ∙ sym (y .long)

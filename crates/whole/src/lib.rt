@@ -1,10 +1,9 @@
-// Calls on a whole store: the Rust's `BitSet::with_capacity`, `clear`, `is_empty` and `==`.
+// Calls on a whole store: the Rust's `BitSet::with_capacity`, `clear` and `is_empty`.
 ghost use mathlib.Core.Path.{_≡_};
 ghost use lib.ListN.{length, replicate, set};
 ghost use Rattle.util.specs.Outcome.{Settled};
-ghost use Rattle.util.specs.Word.{same};
 ghost use Rattle.store.specs.Answer.{askedPaper, didPaper};
-ghost use Rattle.whole.specs.Calls.{openOf, clearOf, isEmptyOf, equalOf};
+ghost use Rattle.whole.specs.Calls.{openOf, clearOf, isEmptyOf};
 use store::Asked;
 use store::Did;
 
@@ -63,37 +62,4 @@ pub fn is_empty(store: &[u64]) -> Asked
         return Asked::Refused(2);
     }
     Asked::Is(store::get(store, store::end(n, 4)) == 0)
-}
-
-// Whether two slices of one length hold the same words.
-fn alike(a: &[u64], b: &[u64]) -> bool
-    requires { ⌜ length (now a) ≡ length (now b) ⌝ }
-    ensures { λ r. ⌜ r ≡ same (now (a .entry)) (now (b .entry)) ⌝ }
-{
-    let mut i = 0;
-    while i < a.len() {
-        if a[i] != b[i] {
-            return false;
-        }
-        i += 1;
-    }
-    true
-}
-
-// Whether two stores of one capacity hold the same words.
-pub fn equal(a: &[u64], b: &[u64]) -> Asked
-    ensures { λ r. ⌜ Settled askedPaper (equalOf (now (a .entry)) (now (b .entry))) r tt ⌝ }
-{
-    let n = store::capacity(a);
-    if n == 0 {
-        return Asked::Refused(2);
-    }
-    let m = store::capacity(b);
-    if m == 0 {
-        return Asked::Refused(2);
-    }
-    if n != m {
-        return Asked::Refused(5);
-    }
-    Asked::Is(alike(a, b))
 }

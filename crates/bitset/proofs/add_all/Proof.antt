@@ -10,10 +10,13 @@ use borrow.Author.Tests.{ltb-true}
 use lib.Dec.{ltb}
 use lib.ListN.{length, getD, drop}
 use Rattle.util.proofs.Same.{both}
-use Rattle.store.specs.Layout.{cap, StoreOf}
+use Rattle.store.specs.Layout.{cap, StoreOf, endOf}
+use Rattle.store.specs.Word.{anc}
 use Rattle.store.proofs.Geometry.{store-kept}
+use Rattle.members.specs.Place.{Placed}
+use Rattle.members.proofs.Spots.{Ranged, ranged, word-there}
 use Rattle.bitset.specs.Calls.{allBelow, addAll}
-use Rattle.bitset.specs.Edit.{edits, addLayers, Placed}
+use Rattle.bitset.specs.Edit.{edits, addLayers}
 use Rattle.bitset.proofs.Answers.{below-turn, add-turn, add-end}
 use Rattle.bitset.proofs.Edits.{length-edits, cap-edits}
 use Rattle.bitset.proofs.add_all.Statement.{statement}
@@ -30,11 +33,17 @@ abbrev μ-loop : tie.MeasureT-loop
 loop-holds : tie.Need-loop-holds Inv-loop μ-loop
 loop-holds c = (omega arith, c .before .before .pre .0, c .before .before .pre .1, refl, refl)
 
-mul-add-in : tie.Need-mul-add-in Inv-loop μ-loop
-mul-add-in c = search needs
+mul-id : tie.Need-mul-id Inv-loop μ-loop
+mul-id c = search needs
 
-shared-slice-read-add-in : tie.Need-shared-slice-read-add-in Inv-loop μ-loop
-shared-slice-read-add-in c = search needs
+shared-slice-read-id : tie.Need-shared-slice-read-id Inv-loop μ-loop
+shared-slice-read-id c = search needs
+
+end-requires : tie.Need-end-requires Inv-loop μ-loop
+end-requires c κs = search needs
+
+offset-requires : tie.Need-offset-requires Inv-loop μ-loop
+offset-requires c κs = search needs
 
 -- the id that stands here has room, and so have those after it
 rest : (c : tie.In-loop Inv-loop μ-loop) →
@@ -52,8 +61,28 @@ here : (c : tie.In-loop Inv-loop μ-loop) →
     Placed (l .loop .store) (a .n) (getD (a .ids .now) (l .loop .i) 0) 0
 here c = record { store = c .before .loop .inv .1; below = ltb-true _ _ (rest c .0); layer = omega arith }
 
+-- where its word stands
+there : (c : tie.After-offset Inv-loop μ-loop) →
+    let e = c .before in
+    let t = e .before .before in
+    Ranged (here t) (e .end .result) (endOf (t .before .before .before .before .args .n) 0) (c .offset .result) (e .end .ensures) refl (c .offset .ensures)
+there c = ranged (here (c .before .before .before)) _ _ _ (c .before .end .ensures) refl (c .offset .ensures)
+
+add-old : tie.Need-add-old Inv-loop μ-loop
+add-old c = let r = there c in omega (arith, r .part-in, r .end-in)
+
+mul-old : tie.Need-mul-old Inv-loop μ-loop
+mul-old c = let r = there c in omega (arith, r .part-in, r .end-in)
+
+slice-read-old : tie.Need-slice-read-old Inv-loop μ-loop
+slice-read-old c = let r = there (c .before) in omega (arith, r .part-in, r .end-in)
+
 add-in-requires : tie.Need-add-in-requires Inv-loop μ-loop
-add-in-requires c κs = here (c .before .before)
+unfolding anc
+add-in-requires c κs =
+    let o = c .before .before in
+    let z = here (o .before .before .before) in
+    record { placed = z; word-is = word-there z _ (endOf _ 0) _ (o .before .end .ensures) refl (o .offset .ensures) }
 
 add-i : tie.Need-add-i Inv-loop μ-loop
 add-i c = search needs
@@ -64,7 +93,7 @@ loop-less c = search needs
 loop-again : tie.Need-loop-again Inv-loop μ-loop
 loop-again c =
     let e = c .before .before in
-    let t = e .before .before .before in
+    let t = e .before .before .before .before .before .before in
     let l = t .before in
     let a = l .before .before .before .args in
     let n = a .n in
@@ -95,8 +124,13 @@ add-all-spec =
     Inv-loop
     μ-loop
     loop-holds
-    mul-add-in
-    shared-slice-read-add-in
+    mul-id
+    shared-slice-read-id
+    end-requires
+    offset-requires
+    add-old
+    mul-old
+    slice-read-old
     add-in-requires
     add-i
     loop-less

@@ -2,69 +2,62 @@
 use mathlib.Core.Bool.{true}
 use mathlib.Core.Path.{_≡_, sym, _∙_}
 use borrow.Author.Needs.{needs}
-use Rattle.bitset.specs.Edit.{holds}
-use Rattle.bitset.proofs.Answers.{has-is, kept-held, set-all, set-one}
+use Rattle.members.specs.Calls.{holds}
+use Rattle.members.proofs.Answers.{has-is}
+use Rattle.bitset.proofs.Answers.{kept-held, set-all, set-one}
 use Rattle.bitset.proofs.Steps.{one-more, none-yet}
 use Rattle.bitset.proofs.add_in.Statement.{statement}
 use Rattle.bitset.proofs.add_in.Tie as tie
-
-word0-requires : tie.Need-word0-requires
-word0-requires c κs = c .before .before .pre
 
 is-set-requires : tie.Need-is-set-requires
 is-set-requires c κs = search needs
 
 -- the code's test is whether the id is held
-held : (c : tie.After-is-set) → let s = c .before .before .before .before in c .is-set .result ≡ holds (s .args .n) (s .args .store .now) (s .args .id)
+held : (c : tie.After-is-set) → let s = c .before .before in c .is-set .result ≡ holds (s .args .n) (s .args .store .now) (s .args .id)
 held c =
-    let s = c .before .before .before .before .args in
-    has-is (s .n) (s .store .now) (s .id) (c .before .word0 .result) (c .is-set .result) (c .before .word0 .ensures) (c .is-set .ensures)
-
-same-length : tie.Need-same-length
-same-length c = search needs
+    let s = c .before .before in
+    has-is (s .args .n) (s .args .store .now) (s .args .id) (s .args .old) (c .is-set .result) (s .pre .word-is) (c .is-set .ensures)
 
 returns : tie.Need-returns
 returns c = kept-held (sym (held (c .before)) ∙ c .if1 .taken)
 
 edit-requires : tie.Need-edit-requires
-edit-requires c κs = c .before .before .before .before .before .before .before .pre
+edit-requires c κs = c .before .before .before .before .before .pre .placed
 
-same-length-2 : tie.Need-same-length-2
-same-length-2 c = search needs
+same-length : tie.Need-same-length
+same-length c = search needs
 
 returns-2 : tie.Need-returns-2
 returns-2 c =
     let m = c .before .before in
     let t = m .before .before in
     let n = t .before in
-    let p = n .before .before .before .before .before .pre in
-    set-one (sym (held (n .before)) ∙ n .if1 .left) (λ e. t .if2 .taken (n .before .before .word0 .ensures ∙ e))
-    (one-more true p 0 _ _ _ (none-yet true p) (m .edit .ensures))
+    let p = n .before .before .before .pre in
+    set-one (sym (held (n .before)) ∙ n .if1 .left) (λ e. t .if2 .taken (p .word-is ∙ e))
+    (one-more true (p .placed) 0 _ _ _ (none-yet true (p .placed)) (m .edit .ensures))
 
 mark-requires : tie.Need-mark-requires
-mark-requires c κs = c .before .before .before .before .before .before .before .pre
+mark-requires c κs = c .before .before .before .before .before .pre .placed
 
-same-length-3 : tie.Need-same-length-3
-same-length-3 c = search needs
+same-length-2 : tie.Need-same-length-2
+same-length-2 c = search needs
 
 returns-3 : tie.Need-returns-3
 returns-3 c =
     let m = c .before .before in
     let t = m .before .before in
     let n = t .before in
-    set-all (sym (held (n .before)) ∙ n .if1 .left) (sym (n .before .before .word0 .ensures) ∙ t .if2 .left) (m .mark .ensures)
+    set-all (sym (held (n .before)) ∙ n .if1 .left) (sym (n .before .before .before .pre .word-is) ∙ t .if2 .left) (m .mark .ensures)
 
 pub add-in-spec : {M : Type 1} → statement M
 add-in-spec =
     tie.close
     (tie.spec
-    word0-requires
     is-set-requires
-    same-length
     returns
     edit-requires
-    same-length-2
+    same-length
     returns-2
     mark-requires
-    same-length-3
+    same-length-2
     returns-3)

@@ -4,7 +4,8 @@ use Prim.Native.Nat.{ℕ, _%_}
 use native.Mathlib.Omega.{arith}
 use Rattle.util.specs.Word.{change}
 use Rattle.store.proofs.Parts.{part-set, part-word}
-use Rattle.bitset.proofs.Steps.{layer-lt, in-part, Ranged, ranged, edited}
+use Rattle.members.proofs.Spots.{Ranged, ranged}
+use Rattle.bitset.proofs.Steps.{layer-lt, in-part, edited}
 use borrow.Author.Needs.{needs}
 use Rattle.bitset.proofs.edit.Statement.{statement}
 use Rattle.bitset.proofs.edit.Tie as tie

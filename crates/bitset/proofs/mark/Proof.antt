@@ -4,7 +4,7 @@ use mathlib.Core.Path.{_≡_}
 use native.Mathlib.Omega.{arith}
 use borrow.Author.Needs.{needs}
 use Rattle.store.specs.Layout.{top}
-use Rattle.bitset.specs.Edit.{edits, Placed}
+use Rattle.bitset.specs.Edit.{edits}
 use Rattle.bitset.proofs.Steps.{placed, one-more, none-yet}
 use Rattle.bitset.proofs.mark.Statement.{statement}
 use Rattle.bitset.proofs.mark.Tie as tie

@@ -1,4 +1,4 @@
--- `whole::alike` meets its contract: what is left of both slices decides. Assumes nothing.
+-- `same::alike` meets its contract: what is left of both slices decides. Assumes nothing.
 use mathlib.Core.Bool.{Bool, true, false, _&&_}
 use mathlib.Core.Path.{_≡_, refl, sym, ap, _∙_}
 use Prim.Native.Nat.{ℕ, suc, _≤_, _-_}
@@ -9,9 +9,9 @@ use borrow.Author.Tests.{eq-eqb, ne-eqb}
 use lib.Dec.{eqb}
 use lib.ListN.{length, getD, drop}
 use Rattle.util.specs.Word.{same}
-use Rattle.whole.proofs.Loops.{same-turn, same-end}
-use Rattle.whole.proofs.alike.Statement.{statement}
-use Rattle.whole.proofs.alike.Tie as tie
+use Rattle.same.proofs.Loops.{same-turn, same-end}
+use Rattle.same.proofs.alike.Statement.{statement}
+use Rattle.same.proofs.alike.Tie as tie
 
 abbrev Inv-loop : tie.InvT-loop
 Inv-loop a b i₀ i = (i ≤ length a) × (same (drop i a) (drop i b) ≡ same a b)

@@ -1,11 +1,11 @@
--- `whole::equal` meets its contract. Assumes nothing.
+-- `same::equal` meets its contract. Assumes nothing.
 use mathlib.Core.Path.{_≡_}
 use borrow.Author.Needs.{needs}
 use Rattle.store.specs.Layout.{StoreOf}
 use Rattle.store.proofs.Ends.{some-store, no-store}
-use Rattle.whole.proofs.Answers.{equal-first-2, equal-second-2, equal-5, equal-is, same-long}
-use Rattle.whole.proofs.equal.Statement.{statement}
-use Rattle.whole.proofs.equal.Tie as tie
+use Rattle.same.proofs.Answers.{equal-first-2, equal-second-2, equal-5, equal-is, same-long}
+use Rattle.same.proofs.equal.Statement.{statement}
+use Rattle.same.proofs.equal.Tie as tie
 
 capacity-requires : tie.Need-capacity-requires
 capacity-requires c κs = search needs

@@ -1,12 +1,12 @@
--- `bitset::word0` meets its contract. Assumes nothing.
+-- `members::word0` meets its contract. Assumes nothing.
 use mathlib.Core.Path.{_≡_, refl}
 use native.Mathlib.Omega.{arith}
 use borrow.Author.Needs.{needs}
 use Rattle.store.specs.Layout.{endOf}
 use Rattle.store.specs.Word.{anc}
-use Rattle.bitset.proofs.Steps.{Ranged, ranged, word-there}
-use Rattle.bitset.proofs.word0.Statement.{statement}
-use Rattle.bitset.proofs.word0.Tie as tie
+use Rattle.members.proofs.Spots.{Ranged, ranged, word-there}
+use Rattle.members.proofs.word0.Statement.{statement}
+use Rattle.members.proofs.word0.Tie as tie
 
 end-requires : tie.Need-end-requires
 end-requires c κs = search needs
