@@ -216,17 +216,12 @@ handled-is c j w f h b =
     ap (λ (x : ℕ). taken c j x w) e
 
 -- the word below the lowest bit of layer j + 1 read, as the code does it
-pub lowers : {c d : Cursor} {j q w : ℕ} (lw : ℕ → ℕ → ℕ) → j < 3 → 0 < getD (c .masks) (j + 1) 0
-    → (q ≡ placeAt 3 c ((j + 1) % 4)) × (0 < getD (c .masks) ((j + 1) % 4) 0 → firstBit c ((j + 1) % 4) < 64)
-    → w ≡ lw j q → d ≡ handled (j % 3) w c → Lowers lw j c d
+pub lowers : {c d : Cursor} {j q w : ℕ} (lw : ℕ → ℕ → ℕ) → j < 3 → 0 < getD (c .masks) (suc j) 0
+    → (q ≡ placeAt 3 c (suc j)) × (0 < getD (c .masks) (suc j) 0 → firstBit c (suc j) < 64)
+    → w ≡ lw j q → d ≡ handled j w c → Lowers lw j c d
 lowers {c} {d} {j} {q} {w} lw h some placed w-is d-is =
-    let m : (j + 1) % 4 ≡ suc j = omega arith in
-    let o : j % 3 ≡ j = omega arith in
-    let e : j + 1 ≡ suc j = omega arith in
-    let b : firstBit c (suc j) < 64 =
-    subst (λ (k : ℕ). 0 < getD (c .masks) k 0 → firstBit c k < 64) m (placed .1) (subst (λ (k : ℕ). 0 < getD (c .masks) k 0) e some) in
-    let q-is : q ≡ placeAt 3 c (suc j) = placed .0 ∙ ap (placeAt 3 c) m in
-    let here : d ≡ lowered lw j c = d-is ∙ ap₂ (λ (k x : ℕ). handled k x c) o (w-is ∙ ap (lw j) q-is) in
+    let b = placed .1 some in
+    let here : d ≡ lowered lw j c = d-is ∙ ap (λ (x : ℕ). handled j x c) (w-is ∙ ap (lw j) (placed .0)) in
     let v = lw j (placeAt 3 c (suc j)) in
     record {
       is = here;
@@ -234,6 +229,17 @@ lowers {c} {d} {j} {q} {w} lw h some placed w-is d-is =
           let is = here ∙ handled-is c j v f h b in
           record { cursor = is; fine = subst (λ (x : Cursor). Fine 3 (x .prefix)) (sym is) (fine-taken 3 c j v f h b) };
     }
+
+-- the same with the layers' numbers as `place` and `handle_level` count them
+pub lowers-by : {c d : Cursor} {j q w : ℕ} (lw : ℕ → ℕ → ℕ) → j < 3 → 0 < getD (c .masks) (j + 1) 0
+    → (q ≡ placeAt 3 c ((j + 1) % 4)) × (0 < getD (c .masks) ((j + 1) % 4) 0 → firstBit c ((j + 1) % 4) < 64)
+    → w ≡ lw j q → d ≡ handled (j % 3) w c → Lowers lw j c d
+lowers-by {c} {j = j} {q} {w} lw h some placed w-is d-is =
+    let m : (j + 1) % 4 ≡ suc j = omega arith in
+    let o : j % 3 ≡ j = omega arith in
+    let e : j + 1 ≡ suc j = omega arith in
+    lowers lw h (subst (λ (k : ℕ). 0 < getD (c .masks) k 0) e some)
+    (subst (λ (k : ℕ). (q ≡ placeAt 3 c k) × (0 < getD (c .masks) k 0 → firstBit c k < 64)) m placed) w-is (d-is ∙ ap (λ (k : ℕ). handled k w c) o)
 
 -- the same by the lowest layer
 pub lowers-at : {lw lw′ : ℕ → ℕ → ℕ} {j : ℕ} {c d : Cursor} → lowLayer 3 c ≡ suc j → ((i : ℕ) → lw j i ≡ lw′ j i) → Lowers lw j c d → Lowers lw′ (lowLayer 3 c - 1) c d

@@ -12,17 +12,14 @@ use Rattle.formula_iter.proofs.level.Reads as level-reads
 level-requires : tie.Need-level-requires
 level-requires c κs = search needs
 
-add-place : tie.Need-add-place
-add-place c = search needs
-
-place-requires : tie.Need-place-requires
-place-requires c κs = search needs
+spot-requires : tie.Need-spot-requires
+spot-requires c κs = c .level .ensures .1
 
 word-requires : tie.Need-word-requires
 word-requires c κs = search needs
 
-handle-level-requires : tie.Need-handle-level-requires
-handle-level-requires c κs = search needs
+lower-requires : tie.Need-lower-requires
+lower-requires c κs = c .before .before .level .ensures .1
 
 returns : tie.Need-returns
 returns c =
@@ -32,7 +29,7 @@ returns c =
     let a = l .before .before .before .before .before .before .args in
     let lw = machineWord (a .n) (four (a .s0 .now) (a .s1 .now) (a .s2 .now) (a .s3 .now)) (a .codes .now) in
     let v = l .level .ensures in
-    lowers-at (omega (arith, v .0)) (λ i. refl) (lowers lw (v .1) (v .2) (p .place .ensures) (w .word .ensures) (c .handle-level .ensures))
+    lowers-at (v .0) (λ i. refl) (lowers lw (v .1) (v .2) (p .spot .ensures) (w .word .ensures) (c .lower .ensures))
 
 pub read-spec : {M : Type 1} → statement M
-read-spec = tie.close (tie.spec level-requires add-place place-requires word-requires handle-level-requires returns)
+read-spec = tie.close (tie.spec level-requires spot-requires word-requires lower-requires returns)

@@ -3,7 +3,7 @@ use mathlib.Core.Path.{_≡_, sym, ap, _∙_, subst}
 use Prim.Native.Nat.{ℕ, suc, _+_, _%_, _<_}
 use native.Mathlib.Omega.{arith}
 use lib.ListN.{getD}
-use Rattle.iter.proofs.Cursors.{lowers}
+use Rattle.iter.proofs.Cursors.{lowers-by}
 use borrow.Author.Needs.{needs}
 use Rattle.iter.proofs.Cursor.read.Statement.{statement}
 use Rattle.iter.proofs.Cursor.read.Tie as tie
@@ -28,7 +28,7 @@ returns c =
     let p = c .before .before in
     let s = p .before .before in
     let l = s .args .layer .now in
-    lowers (λ (k i : ℕ). getD l i 0) (s .pre .0) (s .pre .1) (p .place .ensures) (c .before .get .ensures) (c .handle-level .ensures)
+    lowers-by (λ (k i : ℕ). getD l i 0) (s .pre .0) (s .pre .1) (p .place .ensures) (c .before .get .ensures) (c .handle-level .ensures)
 
 pub read-spec : {M : Type 1} → statement M
 read-spec =
