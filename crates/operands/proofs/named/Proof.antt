@@ -1,10 +1,10 @@
--- `formulas::named` meets its contract. Assumes nothing.
+-- `operands::named` meets its contract. Assumes nothing.
 use mathlib.Core.Path.{ap, _∙_}
 use borrow.Author.Needs.{needs}
 use denote.Ref.{now}
 use Rattle.desk.specs.Slots.{partOf}
-use Rattle.formulas.proofs.named.Statement.{statement}
-use Rattle.formulas.proofs.named.Tie as tie
+use Rattle.operands.proofs.named.Statement.{statement}
+use Rattle.operands.proofs.named.Tie as tie
 
 get-requires : tie.Need-get-requires
 get-requires c κs = search needs
