@@ -1,8 +1,8 @@
--- `walks::stepped` meets its contract. Assumes nothing.
-use Rattle.walks.proofs.Arms.{step-back}
+-- `cursors::stepped` meets its contract. Assumes nothing.
+use Rattle.cursors.proofs.Laws.{step-back}
 use borrow.Author.Needs.{needs}
-use Rattle.walks.proofs.stepped.Statement.{statement}
-use Rattle.walks.proofs.stepped.Tie as tie
+use Rattle.cursors.proofs.stepped.Statement.{statement}
+use Rattle.cursors.proofs.stepped.Tie as tie
 
 put-requires : tie.Need-put-requires
 put-requires c κs = search needs
