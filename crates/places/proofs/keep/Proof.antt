@@ -1,10 +1,10 @@
--- `fills::keep` meets its contract. Assumes nothing.
+-- `places::keep` meets its contract. Assumes nothing.
 use Prim.Native.Nat.{_-_}
 use lib.ListN.{length}
-use Rattle.fills.proofs.Arms.{Keeping, keep-none, keep-turn, keep-end}
+use Rattle.places.proofs.Batches.{Keeping, keep-none, keep-turn, keep-end}
 use borrow.Author.Needs.{needs}
-use Rattle.fills.proofs.keep.Statement.{statement}
-use Rattle.fills.proofs.keep.Tie as tie
+use Rattle.places.proofs.keep.Statement.{statement}
+use Rattle.places.proofs.keep.Tie as tie
 
 abbrev Inv-loop : tie.InvT-loop
 Inv-loop part₀ ids i₀ part i = Keeping part₀ ids part i

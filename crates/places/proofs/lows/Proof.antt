@@ -1,19 +1,20 @@
--- `fills::load` meets its contract. Assumes nothing.
+-- `places::lows` meets its contract. Assumes nothing.
 use Prim.Native.Nat.{_-_}
 use lib.ListN.{length}
-use Rattle.fills.proofs.Arms.{Loading, load-none, load-turn, load-end}
+use Rattle.cursors.specs.Cursors.{lowOf}
+use Rattle.operands.proofs.Loads.{Loading, load-none, load-turn, load-end}
 use borrow.Author.Needs.{needs}
-use Rattle.fills.proofs.load.Statement.{statement}
-use Rattle.fills.proofs.load.Tie as tie
+use Rattle.places.proofs.lows.Statement.{statement}
+use Rattle.places.proofs.lows.Tie as tie
 
 abbrev Inv-loop : tie.InvT-loop
-Inv-loop part out₀ i₀ out i = Loading part out₀ out i
+Inv-loop part out₀ i₀ out i = Loading lowOf part out₀ out i
 
 abbrev μ-loop : tie.MeasureT-loop
 μ-loop part out₀ i₀ out i = length out₀ - i
 
 loop-holds : tie.Need-loop-holds Inv-loop μ-loop
-loop-holds c = load-none _ _
+loop-holds c = load-none _ _ _
 
 low-requires : tie.Need-low-requires Inv-loop μ-loop
 low-requires c κs = search needs
@@ -39,8 +40,8 @@ same-length c = search needs
 returns : tie.Need-returns Inv-loop μ-loop
 returns c = load-end (c .before .loop .inv) (search needs)
 
-pub load-spec : {M : Type 1} → statement M
-load-spec =
+pub lows-spec : {M : Type 1} → statement M
+lows-spec =
     tie.close
     (tie.spec
     Inv-loop

@@ -1,8 +1,8 @@
--- `fills::back` meets its contract. Assumes nothing.
-use Rattle.fills.proofs.Arms.{out-at}
+-- `places::back` meets its contract. Assumes nothing.
+use Rattle.places.proofs.Batches.{out-at}
 use borrow.Author.Needs.{needs}
-use Rattle.fills.proofs.back.Statement.{statement}
-use Rattle.fills.proofs.back.Tie as tie
+use Rattle.places.proofs.back.Statement.{statement}
+use Rattle.places.proofs.back.Tie as tie
 
 slot-requires : tie.Need-slot-requires
 slot-requires c κs = search needs

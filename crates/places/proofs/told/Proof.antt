@@ -1,10 +1,10 @@
--- `fills::told` meets its contract. Assumes nothing.
+-- `places::told` meets its contract. Assumes nothing.
 use mathlib.Core.Path.{sym, ap, _∙_}
 use Rattle.fill.specs.declared.Stop.{Stop}
-use Rattle.fills.specs.Calls.{toldOf}
+use Rattle.places.specs.Places.{toldOf}
 use borrow.Author.Needs.{needs}
-use Rattle.fills.proofs.told.Statement.{statement}
-use Rattle.fills.proofs.told.Tie as tie
+use Rattle.places.proofs.told.Statement.{statement}
+use Rattle.places.proofs.told.Tie as tie
 
 enum-told : tie.Need-enum-told
 enum-told c = search needs
