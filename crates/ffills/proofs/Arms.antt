@@ -49,14 +49,13 @@ module _ (desk : List ℕ) {f : List ℕ} (ef : f ≡ partOf desk (numberOf desk
       → Settled batchPaper (batchOf (codesOf (partOf desk (numberOf desk 1))) desk out) r x
   batch-codes out e s = let c = codes-are (partOf desk (numberOf desk 1)) (e ∙ ap length ef) in other (λ i. batchOf (c i) desk out) s
 
-pub fill-is : (desk : List ℕ) (n : ℕ) {c d : ℕ} → c ≡ numberOf desk 6 → d ≡ numberOf desk 8 → {r : Batch} {out : List ℕ}
+pub fill-is : (desk : List ℕ) (c d n : ℕ) {r : Batch} {out : List ℕ}
     → Settled batchPaper (batchOf (codesOf (partOf desk (numberOf desk 1))) desk (lowsOf (partOf desk (numberOf desk 8)) n)) r out
-    → {x : Left} → x ≡ batchedOf desk c d (r .cursor) (r .stop) (r .count) (r .reads) out → x ≡ fillAt desk n
+    → {x : Left} → x ≡ batchedOf desk c d r out → x ≡ fillAt desk c d n
 unfolding fillAt
-fill-is desk n ec ed {r} {out} s ex =
+fill-is desk c d n s ex =
     let o = lowsOf (partOf desk (numberOf desk 8)) n in
-    fill-back desk (numberOf desk 6) (numberOf desk 8) (filledIn (codesOf (partOf desk (numberOf desk 1))) desk (length o)) o s
-    (ex ∙ (λ i. batchedOf desk (ec i) (ed i) (r .cursor) (r .stop) (r .count) (r .reads) out))
+    fill-back desk c d (filledIn (codesOf (partOf desk (numberOf desk 1))) desk (length o)) o s ex
 
 -- ---- the call
 
@@ -65,6 +64,7 @@ module _ (desk : List ℕ) (w count : ℕ) where
   unfolding changeOf
   change-none f e = ap (λ (x : Said). left x desk) e ∙ sym (rw f)
 
-  pub change-done : readyOf desk (takesOf w) count ≡ true → {x : Left} → x ≡ fillAt desk (placesOf (partOf desk (numberOf desk 8))) → x ≡ changeOf desk w count
+  pub change-done : {c d : ℕ} → c ≡ numberOf desk 6 → d ≡ numberOf desk 8 → readyOf desk (takesOf w) count ≡ true → {x : Left}
+      → x ≡ fillAt desk c d (placesOf (partOf desk (numberOf desk 8))) → x ≡ changeOf desk w count
   unfolding changeOf
-  change-done f e = e ∙ sym (rw f)
+  change-done ec ed f e = e ∙ (λ i. fillAt desk (ec i) (ed i) (placesOf (partOf desk (numberOf desk 8)))) ∙ sym (rw f)

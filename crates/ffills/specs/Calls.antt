@@ -26,12 +26,11 @@ filledIn cs desk n = fillIn (slicesOf desk) cs (cursorOf (partOf desk (numberOf 
 abbrev pub batchOf : List ℕ → List ℕ → List ℕ → Outcome (List ℕ)
 batchOf cs desk out = filled (filledIn cs desk (length out)) out
 
--- at n places
-unfoldable pub fillAt : List ℕ → ℕ → Left
-fillAt desk n =
-    let d = numberOf desk 8 in
-    let out = lowsOf (partOf desk d) n in
-    filledOf desk (numberOf desk 6) d (filledIn (codesOf (partOf desk (numberOf desk 1))) desk (length out)) out
+-- at n places; the cursor goes back into slot c, the places into slot d
+unfoldable pub fillAt : List ℕ → ℕ → ℕ → ℕ → Left
+fillAt desk c d n =
+    let out = lowsOf (partOf desk (numberOf desk 8)) n in
+    filledOf desk c d (filledIn (codesOf (partOf desk (numberOf desk 1))) desk (length out)) out
 
 -- how many numbers the command takes; 0 where it is another
 abbrev pub takesOf : ℕ → ℕ
@@ -39,5 +38,5 @@ takesOf w = cond (eqb w ffillWord) 8 0
 
 unfoldable pub changeOf : List ℕ → ℕ → ℕ → Left
 changeOf desk w count =
-    let x = fillAt desk (placesOf (partOf desk (numberOf desk 8))) in
+    let x = fillAt desk (numberOf desk 6) (numberOf desk 8) (placesOf (partOf desk (numberOf desk 8))) in
     cond (readyOf desk (takesOf w) count) x (left unknown desk)

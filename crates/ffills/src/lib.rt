@@ -46,27 +46,23 @@ fn walk(desk: &[u64], out: &mut [u32]) -> Batch
     batch_of(desk, &mut codes[..n], out)
 }
 
-// Its cursor and its places go back into their slots.
-fn fill(desk: &mut [u64], out: &mut [u32]) -> Said
+// Its cursor and its places go back into slots c and d.
+fn fill(desk: &mut [u64], c: u64, d: u64, out: &mut [u32]) -> Said
     requires { ⌜ length (partOf (now desk) (numberOf (now desk) 1)) ≤ 40 ⌝ }
-    ensures { λ r. ⌜ left r (now (desk .exit)) ≡ fillAt (now (desk .entry)) (length (now (out .entry))) ⌝ }
+    ensures { λ r. ⌜ left r (now (desk .exit)) ≡ fillAt (now (desk .entry)) c d (length (now (out .entry))) ⌝ }
 {
-    let c = store::get(desk, 6);
-    let d = store::get(desk, 8);
     let r = walk(desk, out);
-    let k = r.cursor;
-    let e = r.stop;
-    places::batched(desk, c, d, k, e, r.count, r.reads, out)
+    places::batched(desk, c, d, r, out)
 }
 
 // ffill F A B C D K N P: as many places as the eighth slot has words, at most 64.
-fn fill_slots(desk: &mut [u64]) -> Said
+fn fill_slots(desk: &mut [u64], c: u64, d: u64) -> Said
     requires { ⌜ length (partOf (now desk) (numberOf (now desk) 1)) ≤ 40 ⌝ }
-    ensures { λ r. ⌜ left r (now (desk .exit)) ≡ fillAt (now (desk .entry)) (placesOf (partOf (now (desk .entry)) (numberOf (now (desk .entry)) 8))) ⌝ }
+    ensures { λ r. ⌜ left r (now (desk .exit)) ≡ fillAt (now (desk .entry)) c d (placesOf (partOf (now (desk .entry)) (numberOf (now (desk .entry)) 8))) ⌝ }
 {
     let mut ids = [0u32; 64];
     let n = places::count(operands::named(desk, 8));
-    fill(desk, &mut ids[..n])
+    fill(desk, c, d, &mut ids[..n])
 }
 
 // How many numbers the command takes; 0 where it is another.
@@ -81,7 +77,9 @@ pub fn change(desk: &mut [u64], word: u64, count: usize) -> Said
     ensures { λ r. ⌜ left r (now (desk .exit)) ≡ changeOf (now (desk .entry)) word count ⌝ }
 {
     if fwalks::ready(desk, takes(word), count) {
-        return fill_slots(desk);
+        let c = store::get(desk, 6);
+        let d = store::get(desk, 8);
+        return fill_slots(desk, c, d);
     }
     said::unknown()
 }

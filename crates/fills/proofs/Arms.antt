@@ -27,7 +27,7 @@ batch-is b n {r} {out} a e el et ek =
     subst (λ (o : Outcome (List ℕ)). Settled batchPaper o r out) (λ i. fillOf (et i) (ek i) b (w i)) a
 
 pub fill-is : (desk : List ℕ) (c s b d n : ℕ) {r : Batch} {out : List ℕ} → Settled batchPaper (fillOf (partOf desk s) (cursorOf (partOf desk c)) b (lowsOf (partOf desk d) n)) r out
-    → {x : Left} → x ≡ batchedOf desk c d (r .cursor) (r .stop) (r .count) (r .reads) out → x ≡ fillAt desk c s b d n
+    → {x : Left} → x ≡ batchedOf desk c d r out → x ≡ fillAt desk c s b d n
 unfolding fillAt
 fill-is desk c s b d n a ex =
     let o = lowsOf (partOf desk d) n in

@@ -28,9 +28,7 @@ fn fill(desk: &mut [u64], c: u64, s: u64, budget: u64, d: u64, out: &mut [u32]) 
     ensures { λ r. ⌜ left r (now (desk .exit)) ≡ fillAt (now (desk .entry)) c s budget d (length (now (out .entry))) ⌝ }
 {
     let r = batch(desk, c, s, budget, d, out);
-    let k = r.cursor;
-    let e = r.stop;
-    places::batched(desk, c, d, k, e, r.count, r.reads, out)
+    places::batched(desk, c, d, r, out)
 }
 
 // fill C S B D: as many places as slot d has words, at most 64.

@@ -11,9 +11,7 @@ use Rattle.util.specs.Outcome.{Settled}
 use Rattle.desk.specs.Slots.{spanOf, backOf}
 use Rattle.desk.specs.declared.Span.{Span}
 use Rattle.desk.proofs.Laws.{part-is, back-is}
-use Rattle.iter.specs.declared.Cursor.{Cursor}
 use Rattle.fill.specs.declared.Batch.{Batch}
-use Rattle.fill.specs.declared.Stop.{Stop}
 use Rattle.fill.specs.Fill.{Filled, batchPaper, filled}
 use Rattle.fill.proofs.Fills.{the-batch}
 use Rattle.said.specs.Numbers.{Left, left}
@@ -53,15 +51,13 @@ out-at desk d ids p f {l} e = back-is desk d p (f .0) (f .1) l ∙ ap (backOf de
 
 -- ---- a batch
 
-pub batch-back : (desk : List ℕ) (c d : ℕ) (k : Cursor) (stop : Stop) (n reads : ℕ) (ids : List ℕ) {y z : List ℕ} {x : Said} → y ≡ backAt desk c k → z ≡ outAt y d ids
-    → x ≡ toldOf stop n reads → left x z ≡ batchedOf desk c d k stop n reads ids
+pub batch-back : (desk : List ℕ) (c d : ℕ) (b : Batch) (ids : List ℕ) {y z : List ℕ} {x : Said} → y ≡ backAt desk c (b .cursor) → z ≡ outAt y d ids
+    → x ≡ toldOf (b .stop) (b .count) (b .reads) → left x z ≡ batchedOf desk c d b ids
 unfolding batchedOf
-batch-back desk c d k stop n reads ids ey ez ex = ap₂ left ex (ez ∙ ap (λ (l : List ℕ). outAt l d ids) ey)
+batch-back desk c d b ids ey ez ex = ap₂ left ex (ez ∙ ap (λ (l : List ℕ). outAt l d ids) ey)
 
 -- the batch of a call that is settled is the definition's
 pub fill-back : (desk : List ℕ) (c d : ℕ) (f : Filled) (loaded : List ℕ) {r : Batch} {out : List ℕ} → Settled batchPaper (filled f loaded) r out
-    → {x : Left} → x ≡ batchedOf desk c d (r .cursor) (r .stop) (r .count) (r .reads) out → x ≡ filledOf desk c d f loaded
+    → {x : Left} → x ≡ batchedOf desk c d r out → x ≡ filledOf desk c d f loaded
 unfolding filledOf
-fill-back desk c d f loaded {r} {out} a ex =
-    let q = the-batch f loaded a in
-    ex ∙ ap₂ (λ (w : Batch) (l : List ℕ). batchedOf desk c d (w .cursor) (w .stop) (w .count) (w .reads) l) q (a .memory)
+fill-back desk c d f loaded a ex = ex ∙ ap₂ (batchedOf desk c d) (the-batch f loaded a) (a .memory)

@@ -5,10 +5,10 @@ use Prim.Native.Nat.{ℕ, min}
 use lib.ListN.{length}
 use lib.Seq.{sets}
 use Rattle.desk.specs.Slots.{partOf, backOf}
-use Rattle.iter.specs.declared.Cursor.{Cursor}
+use Rattle.fill.specs.declared.Batch.{Batch}
 use Rattle.fill.specs.declared.Stop.{Stop}
 use Rattle.fill.specs.declared.Stop.the-variants.{Full, Paused, End, Refused}
-use Rattle.fill.specs.Fill.{Filled, filled}
+use Rattle.fill.specs.Fill.{Filled, batch, filled}
 use Rattle.said.specs.Numbers.{oneOf, Left, left}
 use Rattle.said.specs.declared.Said.{Said}
 use Rattle.cursors.specs.Cursors.{lowOf, backAt, three}
@@ -33,9 +33,9 @@ toldOf End n r = three 3 n r
 toldOf (Refused m) n r = oneOf m
 
 -- "The cursor goes back into its slot first, then all places into theirs."
-unfoldable pub batchedOf : List ℕ → ℕ → ℕ → Cursor → Stop → ℕ → ℕ → List ℕ → Left
-batchedOf desk c d k stop n reads ids = left (toldOf stop n reads) (outAt (backAt desk c k) d ids)
+unfoldable pub batchedOf : List ℕ → ℕ → ℕ → Batch → List ℕ → Left
+batchedOf desk c d b ids = left (toldOf (b .stop) (b .count) (b .reads)) (outAt (backAt desk c (b .cursor)) d ids)
 
 -- what a fill leaves, with the cursor in slot c and the places `out` of slot d
 unfoldable pub filledOf : List ℕ → ℕ → ℕ → Filled → List ℕ → Left
-filledOf desk c d f out = batchedOf desk c d (f .cursor) (f .stop) (length (f .ids)) (f .reads) (filled f out .lent)
+filledOf desk c d f out = batchedOf desk c d (batch f) (filled f out .lent)

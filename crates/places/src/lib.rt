@@ -7,8 +7,8 @@ ghost use Rattle.said.specs.Numbers.{left};
 ghost use Rattle.cursors.specs.Cursors.{lowOf};
 ghost use Rattle.operands.specs.Operands.{numbersOf};
 ghost use Rattle.places.specs.Places.{placesOf, outAt, toldOf, batchedOf};
+use fill::Batch;
 use fill::Stop;
-use iter::Cursor;
 use said::Said;
 
 // How many places the words give: one each, at most 64.
@@ -86,19 +86,12 @@ fn told(stop: Stop, count: usize, reads: u64) -> Said
 }
 
 // A batch's cursor goes back into slot c, then its places into slot d, and the batch is told.
-pub fn batched(
-    desk: &mut [u64],
-    c: u64,
-    d: u64,
-    k: Cursor,
-    stop: Stop,
-    count: usize,
-    reads: u64,
-    ids: &[u32],
-) -> Said
-    ensures { λ r. ⌜ left r (now (desk .exit)) ≡ batchedOf (now (desk .entry)) c d k stop count reads (now (ids .entry)) ⌝ }
+pub fn batched(desk: &mut [u64], c: u64, d: u64, b: Batch, ids: &[u32]) -> Said
+    ensures { λ r. ⌜ left r (now (desk .exit)) ≡ batchedOf (now (desk .entry)) c d b (now (ids .entry)) ⌝ }
 {
+    let k = b.cursor;
+    let stop = b.stop;
     cursors::put(desk, c, k);
     back(desk, d, ids);
-    told(stop, count, reads)
+    told(stop, b.count, b.reads)
 }

@@ -22,8 +22,14 @@ is-ready c =
     let a = t .before .before .before .args in
     c .ready .ensures ∙ ap (λ (n : ℕ). readyOf (a .desk .now) n (a .count)) (t .takes .ensures)
 
+get-requires : tie.Need-get-requires
+get-requires c κs = search needs
+
+get-requires-2 : tie.Need-get-requires-2
+get-requires-2 c κs = search needs
+
 fill-slots-requires : tie.Need-fill-slots-requires
-fill-slots-requires c κs = let t = c .before in ready-few _ _ _ (sym (is-ready (t .before)) ∙ t .if1 .taken)
+fill-slots-requires c κs = let t = c .before .before .before .before .before in ready-few _ _ _ (sym (is-ready (t .before)) ∙ t .if1 .taken)
 
 same-length : tie.Need-same-length
 same-length c = search needs
@@ -31,8 +37,10 @@ same-length c = search needs
 returns : tie.Need-returns
 returns c =
     let f = c .before .before in
-    let t = f .before .before in
-    change-done _ _ _ (sym (is-ready (t .before)) ∙ t .if1 .taken) (f .fill-slots .ensures)
+    let d = f .before .before in
+    let g = d .before .before in
+    let t = g .before .before in
+    change-done _ _ _ (g .get .ensures) (d .get2 .ensures) (sym (is-ready (t .before)) ∙ t .if1 .taken) (f .fill-slots .ensures)
 
 unknown-requires : tie.Need-unknown-requires
 unknown-requires c κs = search needs
@@ -44,4 +52,4 @@ returns-2 : tie.Need-returns-2
 returns-2 c = let e = c .before in change-none _ _ _ (sym (is-ready (e .before)) ∙ e .if1 .left) (c .unknown .ensures)
 
 pub change-spec : {M : Type 1} → statement M
-change-spec = tie.close (tie.spec takes-requires ready-requires fill-slots-requires same-length returns unknown-requires same-length-2 returns-2)
+change-spec = tie.close (tie.spec takes-requires ready-requires get-requires get-requires-2 fill-slots-requires same-length returns unknown-requires same-length-2 returns-2)

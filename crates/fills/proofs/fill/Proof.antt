@@ -19,7 +19,7 @@ same-length-2 c = search needs
 returns : tie.Need-returns
 returns c =
     let b = c .before .before in
-    let f = b .before .before .before .before .before .before in
+    let f = b .before .before .before .before .before in
     fill-is _ _ _ _ _ _ (f .batch .ensures) (b .batched .ensures)
 
 pub fill-spec : {M : Type 1} → statement M

@@ -20,7 +20,7 @@ returns : tie.Need-returns
 returns c =
     let b = c .before .before .before in
     let p = b .before .before .before .before in
-    batch-back _ _ _ _ _ _ _ _ (p .put .ensures) (b .back .ensures) (c .told .ensures)
+    batch-back _ _ _ _ _ (p .put .ensures) (b .back .ensures) (c .told .ensures)
 
 pub batched-spec : {M : Type 1} → statement M
 batched-spec = tie.close (tie.spec put-requires back-requires told-requires same-length returns)
