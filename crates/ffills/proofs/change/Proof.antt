@@ -2,7 +2,6 @@
 use mathlib.Core.Path.{_≡_, sym, ap, _∙_}
 use Prim.Native.Nat.{ℕ}
 use Rattle.fwalks.specs.Calls.{readyOf}
-use Rattle.fwalks.proofs.Arms.{ready-few}
 use Rattle.ffills.specs.Calls.{takesOf}
 use Rattle.ffills.proofs.Arms.{change-none, change-done}
 use borrow.Author.Needs.{needs}
@@ -29,7 +28,7 @@ get-requires-2 : tie.Need-get-requires-2
 get-requires-2 c κs = search needs
 
 fill-slots-requires : tie.Need-fill-slots-requires
-fill-slots-requires c κs = let t = c .before .before .before .before .before in ready-few _ _ _ (sym (is-ready (t .before)) ∙ t .if1 .taken)
+fill-slots-requires c κs = search needs
 
 same-length : tie.Need-same-length
 same-length c = search needs

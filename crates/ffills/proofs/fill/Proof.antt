@@ -4,8 +4,8 @@ use borrow.Author.Needs.{needs}
 use Rattle.ffills.proofs.fill.Statement.{statement}
 use Rattle.ffills.proofs.fill.Tie as tie
 
-walk-requires : tie.Need-walk-requires
-walk-requires c κs = search needs
+batch-requires : tie.Need-batch-requires
+batch-requires c κs = search needs
 
 batched-requires : tie.Need-batched-requires
 batched-requires c κs = search needs
@@ -19,7 +19,7 @@ same-length-2 c = search needs
 returns : tie.Need-returns
 returns c =
     let b = c .before .before in
-    fill-is _ _ _ _ (b .before .before .before .before .before .walk .ensures) (b .batched .ensures)
+    fill-is _ _ _ _ _ (b .before .before .before .before .before .batch .ensures) (b .batched .ensures)
 
 pub fill-spec : {M : Type 1} → statement M
-fill-spec = tie.close (tie.spec walk-requires batched-requires same-length same-length-2 returns)
+fill-spec = tie.close (tie.spec batch-requires batched-requires same-length same-length-2 returns)

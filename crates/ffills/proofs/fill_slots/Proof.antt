@@ -29,7 +29,7 @@ returns : tie.Need-returns
 returns c =
     let f = c .before .before .before in
     let n = f .before .before .before in
-    f .fill .ensures ∙ ap (fillAt _ _ _) (length-take-le _ _ (search needs) ∙ n .count .ensures ∙ ap placesOf (n .before .named .ensures))
+    f .fill .ensures ∙ ap (fillAt _ _ _ _) (length-take-le _ _ (search needs) ∙ n .count .ensures ∙ ap placesOf (n .before .named .ensures))
 
 pub fill-slots-spec : {M : Type 1} → statement M
 fill-slots-spec = tie.close (tie.spec named-requires count-requires array-borrow-prefix-ids slice-aggregate-fill fill-requires same-length returns)

@@ -2,7 +2,6 @@
 use mathlib.Core.Path.{sym}
 use borrow.Author.Tests.{eq-eqb, ne-eqb}
 use Rattle.ffills.specs.Calls.{ffillWord}
-use borrow.Author.Needs.{needs}
 use Rattle.ffills.proofs.takes.Statement.{statement}
 use Rattle.ffills.proofs.takes.Tie as tie
 

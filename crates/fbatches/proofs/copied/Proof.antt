@@ -1,8 +1,8 @@
--- `ffills::batch_of` meets its contract. Assumes nothing.
-use Rattle.ffills.proofs.Arms.{batch-copied}
+-- `fbatches::copied` meets its contract. Assumes nothing.
+use Rattle.fbatches.proofs.Arms.{batch-copied}
 use borrow.Author.Needs.{needs}
-use Rattle.ffills.proofs.batch_of.Statement.{statement}
-use Rattle.ffills.proofs.batch_of.Tie as tie
+use Rattle.fbatches.proofs.copied.Statement.{statement}
+use Rattle.fbatches.proofs.copied.Tie as tie
 
 named-requires : tie.Need-named-requires
 named-requires c κs = search needs
@@ -16,8 +16,8 @@ named-requires-2 c κs = search needs
 lows-requires : tie.Need-lows-requires
 lows-requires c κs = search needs
 
-batch-requires : tie.Need-batch-requires
-batch-requires c κs = search needs
+over-requires : tie.Need-over-requires
+over-requires c κs = search needs
 
 same-length : tie.Need-same-length
 same-length c = search needs
@@ -31,7 +31,7 @@ returns c =
     let l = b .before .before .before .before .before in
     let p = l .before .before in
     let y = p .before .before .before in
-    batch-copied _ (y .before .before .named .ensures) _ _ (p .named2 .ensures) (y .bytes .ensures) (l .lows .ensures) (b .batch .ensures)
+    batch-copied _ (y .before .before .named .ensures) _ _ (p .named2 .ensures) (y .bytes .ensures) (l .lows .ensures) (b .over .ensures)
 
-pub batch-of-spec : {M : Type 1} → statement M
-batch-of-spec = tie.close (tie.spec named-requires bytes-requires named-requires-2 lows-requires batch-requires same-length same-length-2 returns)
+pub copied-spec : {M : Type 1} → statement M
+copied-spec = tie.close (tie.spec named-requires bytes-requires named-requires-2 lows-requires over-requires same-length same-length-2 returns)

@@ -1,8 +1,8 @@
--- `ffills::batch` meets its contract. Assumes nothing.
-use Rattle.ffills.proofs.Arms.{batch-is}
+-- `fbatches::over` meets its contract. Assumes nothing.
+use Rattle.fbatches.proofs.Arms.{batch-is}
 use borrow.Author.Needs.{needs}
-use Rattle.ffills.proofs.batch.Statement.{statement}
-use Rattle.ffills.proofs.batch.Tie as tie
+use Rattle.fbatches.proofs.over.Statement.{statement}
+use Rattle.fbatches.proofs.over.Tie as tie
 
 get-requires : tie.Need-get-requires
 get-requires c κs = search needs
@@ -43,5 +43,5 @@ returns c =
     let a = k .before .before .before .before .before .args in
     batch-is (a .codes .now) (a .desk .now) (a .out .now) (n1 .named .ensures) (n2 .named2 .ensures) (n3 .named3 .ensures) (n4 .named4 .ensures) (k .before .get .ensures) (g .get2 .ensures) (k .take .ensures) (f .fill .ensures)
 
-pub batch-spec : {M : Type 1} → statement M
-batch-spec = tie.close (tie.spec get-requires take-requires named-requires named-requires-2 named-requires-3 named-requires-4 get-requires-2 fill-requires same-length returns)
+pub over-spec : {M : Type 1} → statement M
+over-spec = tie.close (tie.spec get-requires take-requires named-requires named-requires-2 named-requires-3 named-requires-4 get-requires-2 fill-requires same-length returns)
