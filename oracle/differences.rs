@@ -1,5 +1,5 @@
 //! The crate's side of docs/DIFFERENCES.md: a line for each row that can be shown on calls that stand, in the words of oracle/differences.txt.
-use hibitset::{BitIter, BitSet, BitSetLike};
+use hibitset::{BitIter, BitSet, BitSetAll, BitSetLike, BitSetNot};
 use hibitset_util::Row;
 use std::panic::{catch_unwind, AssertUnwindSafe};
 
@@ -101,6 +101,14 @@ fn and_assign(row: u32, n: u32, first: &[u32], second: &[u32]) {
     println!("{row} {first:?} and {second:?}: {}, first words {words:?}", seen(&set, first[0]));
 }
 
+/// The words of a virtual set over N=65, one past each layer's end among them, and how many ids its walk hands out.
+fn virtual_set(row: u32, set: impl BitSetLike) {
+    let words: Vec<usize> = [(0, 0), (0, 1), (0, 2), (1, 0), (1, 1), (2, 0), (2, 1), (3, 0)].iter().map(|&(k, i)| set.get_from_layer(k, i)).collect();
+    let ones = words.iter().all(|&w| w == usize::MAX);
+    let (count, last) = set.iter().fold((0, 0), |(count, _), id| (count + 1, id));
+    println!("{row} all words all ones {}, walk {count} ids, the last {last}", yes(ones));
+}
+
 fn shifts() {
     let id = 4_294_967_285u32;
     println!("30 row {}, mask {}", id.row(32), id.mask(32));
@@ -127,6 +135,8 @@ fn main() {
     and_assign(18, 262_152, &[1], &[2]);
     and_assign(19, 262_152, &[5, 262_151], &[5]);
     and_assign(20, M, &[5, 16_515_072], &[5]);
+    virtual_set(21, BitSetNot(BitSet::with_capacity(64)));
+    virtual_set(22, BitSetAll);
     cursors();
     shifts();
 }

@@ -10,7 +10,7 @@ const CODES: u64 = 539_000;
 /// The slots of the four stores, and how they are lent in one memory; number 16 lends nothing.
 const SLOTS: &str = "0 1 2 3";
 
-fn put_codes(out: &mut impl Write, codes: &[u64]) -> io::Result<()> {
+pub fn put_codes(out: &mut impl Write, codes: &[u64]) -> io::Result<()> {
     writeln!(out, "lend 12 {CODES} {}", codes.len())?;
     for (i, code) in codes.iter().enumerate() {
         writeln!(out, "poke 12 {i} {code}")?;
@@ -19,7 +19,7 @@ fn put_codes(out: &mut impl Write, codes: &[u64]) -> io::Result<()> {
 }
 
 /// A formula of exactly so many codes over the stores below `stores`: each code is any that still lets it end with one value.
-fn formula(r: &mut Random, len: usize, stores: usize) -> Vec<u64> {
+pub fn formula(r: &mut Random, len: usize, stores: usize) -> Vec<u64> {
     let mut waiting = 0;
     let mut codes = Vec::new();
     for left in (0..len).rev() {
@@ -116,7 +116,7 @@ fn short(out: &mut impl Write) -> io::Result<()> {
 }
 
 /// A formula with a code changed, taken out or put in, or with codes behind it.
-fn damaged(r: &mut Random) -> Vec<u64> {
+pub fn damaged(r: &mut Random) -> Vec<u64> {
     let len = 1 + r.below(32);
     let mut codes = formula(r, len, 4);
     let at = r.below(codes.len());

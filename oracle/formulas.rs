@@ -39,7 +39,10 @@ impl<S: BitSetLike> Cut<S> {
     /// The bits of word i of layer k that stand for an id or a word.
     fn existing(&self, k: usize, i: usize) -> usize {
         let places = if k == 0 { self.n as usize } else { model::sizes(self.n)[k - 1] };
-        (0..64).filter(|bit| i.checked_mul(64).is_some_and(|first| first + bit < places)).fold(0, |w, bit| w | 1 << bit)
+        match places.saturating_sub(i.saturating_mul(64)) {
+            left @ 0..=63 => (1 << left) - 1,
+            _ => usize::MAX,
+        }
     }
 }
 

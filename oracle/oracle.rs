@@ -7,6 +7,8 @@ mod merge_scripts;
 mod map_scripts;
 mod maps;
 mod formula_scripts;
+mod formula_walk_scripts;
+mod formula_walks;
 mod formulas;
 mod model;
 mod scripts;
@@ -39,13 +41,15 @@ fn main() -> io::Result<()> {
         ["script", "damage"] => map_scripts::damage(&mut out)?,
         ["script", "formula"] => formula_scripts::formula_script(&mut out)?,
         ["script", "damaged"] => formula_scripts::damaged_script(&mut out)?,
+        ["script", "fwalk"] => formula_walk_scripts::walk(&mut out)?,
+        ["script", "ffill"] => formula_walk_scripts::fill(&mut out)?,
         ["answer"] => {
             let mut script = Vec::new();
             io::stdin().lock().read_to_end(&mut script)?;
             answers::all(&script, &mut out)?;
         }
         _ => {
-            eprintln!("usage: oracle script average | row | bad | small | history | top | unsound | refusal | walk | cursor | fill | superset | merge | map | damage | formula | damaged; oracle answer <SCRIPT");
+            eprintln!("usage: oracle script average | row | bad | small | history | top | unsound | refusal | walk | cursor | fill | superset | merge | map | damage | formula | damaged | fwalk | ffill; oracle answer <SCRIPT");
             std::process::exit(2);
         }
     }

@@ -3,9 +3,10 @@
 //! Every slot that is a store has a set of the crate while it is used: every answer and every word comes from that set, also where
 //! words were poked to what no set has. The crate hands out its words to be read only, so they are written at their addresses.
 use crate::maps;
+use crate::formula_walks;
 use crate::formulas::{self, Any};
 use crate::model;
-use crate::walks::{self, Answer, Cursor, Step};
+use crate::walks::{self, Answer, Batch, Cursor, Step};
 use hibitset::{BitSet, BitSetLike};
 use std::mem::size_of;
 
@@ -145,6 +146,9 @@ impl Stores {
                 let i = id(i)?;
                 return self.formula(f, [a, b, c, d], 0, |set, n| (u64::from(i) < n && set.contains(i)).into());
             }
+            ("fstart", &[f, a, b, c, d, at]) => return self.formula_step(f, [a, b, c, d], at, |set, _| Ok(formula_walks::start(set))),
+            ("fnext", &[f, a, b, c, d, at, budget]) => return self.formula_step(f, [a, b, c, d], at, |set, cursor| formula_walks::next(set, cursor, budget)),
+            ("ffill", &[f, a, b, c, d, at, budget, places]) => return self.formula_fill(f, [a, b, c, d], at, budget, places),
             ("fword", &[f, a, b, c, d, k, i]) => return self.formula(f, [a, b, c, d], k, |set, _| set.get_from_layer(k as usize, i as usize) as u64),
             _ => {}
         }
@@ -427,21 +431,32 @@ impl Stores {
         });
         self.step(c, step)
     }
-    /// A fill with the words of slot d as its places, the first 64 where there are more. The cursor goes back first, then the places.
-    fn fill(&mut self, c: usize, s: usize, budget: u64, d: usize) -> Option<Vec<u64>> {
-        let cursor = self.cursor(c)?;
-        let mut out: Vec<u32> = self.words(d).iter().take(PLACES).map(|&w| w as u32).collect();
-        let batch = self.store(s).and_then(|set| match walks::is_cursor(&cursor) {
-            true => Ok(walks::fill(&set.bits, &cursor, budget, &mut out)),
-            false => Err(7),
-        });
+
+    /// The places in the words of slot d, the first 64 where there are more; none past the last slot.
+    fn places(&mut self, d: u64) -> Vec<u32> {
+        let words = if d < SLOTS as u64 { self.words(d as usize) } else { Vec::new() };
+        words.iter().take(PLACES).map(|&w| w as u32).collect()
+    }
+
+    /// The cursor goes back first, then the places.
+    fn batch(&mut self, c: usize, d: u64, batch: Result<Batch, u64>, out: &[u32]) -> Option<Vec<u64>> {
         if let Ok(batch) = &batch {
             self.put_cursor(c, &batch.cursor);
         }
         for (i, &id) in out.iter().enumerate() {
-            self.poke(d, i as u64, id.into());
+            self.poke(d as usize, i as u64, id.into());
         }
         Some(batch.map_or_else(|refusal| vec![refusal], |batch| vec![batch.stop, batch.count as u64, batch.reads]))
+    }
+
+    fn fill(&mut self, c: usize, s: usize, budget: u64, d: usize) -> Option<Vec<u64>> {
+        let cursor = self.cursor(c)?;
+        let mut out = self.places(d as u64);
+        let batch = self.store(s).and_then(|set| match walks::is_cursor(&cursor) {
+            true => Ok(walks::fill(&set.bits, &cursor, budget, &mut out)),
+            false => Err(7),
+        });
+        self.batch(c, d as u64, batch, &out)
     }
 
     /// The first next of the crate's own walk.
@@ -485,17 +500,39 @@ impl Stores {
         paper(answer)
     }
 
-    /// What is asked of a formula, and of a layer of it; a number past the last slot names an empty one. Nothing where there are too many codes.
-    fn formula(&mut self, f: u64, slots: [u64; 4], layer: u64, ask: impl Fn(&Any, u64) -> u64) -> Option<Vec<u64>> {
+    /// The codes in slot f; none past the last slot. Nothing where there are too many.
+    fn codes(&mut self, f: u64) -> Option<Vec<u64>> {
         let codes: Vec<u64> = if f < SLOTS as u64 { self.words(f as usize).iter().map(|w| w % 256).collect() } else { Vec::new() };
-        if codes.len() > 40 {
-            return None;
-        }
+        Some(codes).filter(|codes| codes.len() <= 40)
+    }
+
+    /// What is asked of a formula, and of a layer of it; a number past the last slot names an empty one.
+    fn formula(&mut self, f: u64, slots: [u64; 4], layer: u64, ask: impl Fn(&Any, u64) -> u64) -> Option<Vec<u64>> {
+        let codes = self.codes(f)?;
         paper(self.virtual_set(&codes, slots, layer, ask))
     }
 
+    /// A step over a formula from the cursor in slot c.
+    fn formula_step(&mut self, f: u64, slots: [u64; 4], c: u64, step: impl Fn(&Any, &Cursor) -> Result<Step, u64>) -> Option<Vec<u64>> {
+        let c = Some(c as usize).filter(|&c| c < SLOTS)?;
+        let codes = self.codes(f)?;
+        let cursor = self.cursor(c)?;
+        let step = self.virtual_set(&codes, slots, 0, |set, _| step(set, &cursor)).and_then(|step| step);
+        self.step(c, step)
+    }
+
+    /// A batch over a formula, with slot c as the cursor and slot d as the places.
+    fn formula_fill(&mut self, f: u64, slots: [u64; 4], c: u64, budget: u64, d: u64) -> Option<Vec<u64>> {
+        let c = Some(c as usize).filter(|&c| c < SLOTS)?;
+        let codes = self.codes(f)?;
+        let cursor = self.cursor(c)?;
+        let mut out = self.places(d);
+        let batch = self.virtual_set(&codes, slots, 0, |set, _| formula_walks::fill(set, &cursor, budget, &mut out)).and_then(|batch| batch);
+        self.batch(c, d, batch, &out)
+    }
+
     /// Refusals 2 (stores in number order), 5, then 4 and 6; else the answer of the crate's virtual set.
-    fn virtual_set(&mut self, codes: &[u64], slots: [u64; 4], layer: u64, ask: impl Fn(&Any, u64) -> u64) -> Result<u64, u64> {
+    fn virtual_set<T>(&mut self, codes: &[u64], slots: [u64; 4], layer: u64, ask: impl FnOnce(&Any, u64) -> T) -> Result<T, u64> {
         let lent = slots.map(|s| s < SLOTS as u64 && self.slots[s as usize].len > 0);
         if !lent[0] {
             return Err(2);
@@ -514,7 +551,10 @@ impl Stores {
         if !formulas::is_formula(codes, lent) {
             return Err(6);
         }
-        // Looking at the one may have put another's set back.
+        // Slots that share words are all put back first, and sets are made anew where one is missing.
+        for s in (0..4).filter(|&s| lent[s]) {
+            self.settle(slots[s] as usize);
+        }
         let mut made: Vec<Option<Set>> = Vec::new();
         for s in 0..4 {
             let missing = lent[s] && self.slots[slots[s] as usize].set.is_none();

@@ -5,10 +5,10 @@ use crate::store_scripts::{id, CAPACITIES};
 use std::io::{self, Write};
 
 /// The store that is walked is slot 0, the cursor slot 14, behind every store.
-const CURSOR: &str = "lend 14 540000 7";
+pub const CURSOR: &str = "lend 14 540000 7";
 
 /// Budgets of calls that follow each other: always the same, taking turns, or at random.
-fn budget(r: &mut Random, pattern: usize, call: usize) -> u64 {
+pub fn budget(r: &mut Random, pattern: usize, call: usize) -> u64 {
     match pattern {
         0..=4 => pattern as u64,
         5 => [0, 1][call % 2],
@@ -43,7 +43,7 @@ pub fn walk(out: &mut impl Write) -> io::Result<()> {
 }
 
 /// A word of few bits, many, one, none or all.
-fn word(r: &mut Random) -> u64 {
+pub fn word(r: &mut Random) -> u64 {
     let k = 1 + r.below(5);
     [0, 1, u64::MAX, 1 << r.below(64), r.sparse(k), r.dense(k)][r.below(6)]
 }
@@ -71,7 +71,7 @@ pub fn cursor(out: &mut impl Write) -> io::Result<()> {
 }
 
 /// The cursor's masks become anything, and its prefixes ones that pass, in most rounds.
-fn poke(out: &mut impl Write, r: &mut Random, round: usize) -> io::Result<()> {
+pub fn poke(out: &mut impl Write, r: &mut Random, round: usize) -> io::Result<()> {
     for k in 0..4 {
         writeln!(out, "poke 14 {k} {}", word(r))?;
     }
@@ -101,7 +101,7 @@ fn refusals(out: &mut impl Write, r: &mut Random) -> io::Result<()> {
 }
 
 /// The places of a fill stand in slot 15, behind the cursor: so many words, of 32 bits in most rounds.
-fn places(out: &mut impl Write, r: &mut Random, len: usize) -> io::Result<()> {
+pub fn places(out: &mut impl Write, r: &mut Random, len: usize) -> io::Result<()> {
     writeln!(out, "lend 15 541000 {len}")?;
     for i in 0..len.min(3) {
         let w = [r.word(), r.word() % (1 << 32), u64::from(u32::MAX), 1 << 32][r.below(4)];
@@ -111,7 +111,7 @@ fn places(out: &mut impl Write, r: &mut Random, len: usize) -> io::Result<()> {
 }
 
 /// How many places a call has: always the same, taking turns through all numbers up to 64, or at random.
-fn room(r: &mut Random, pattern: usize, call: usize) -> usize {
+pub fn room(r: &mut Random, pattern: usize, call: usize) -> usize {
     match pattern {
         0..=2 => [1, 2, 64][pattern],
         3 => [0, 1][call % 2],

@@ -1,8 +1,8 @@
-//! The crate's own walk, cut by a budget of reads, from any cursor.
+//! The crate's own walk of a set or a virtual set, cut by a budget of reads, from any cursor.
 //!
 //! A `BitIter` of the crate can be made from any masks and prefixes, and prints them in its debug form. It walks a set that counts the
 //! words asked for and stops the walk, by unwinding, at the first that the budget does not cover.
-use hibitset::{BitIter, BitSet, BitSetLike};
+use hibitset::{BitIter, BitSetLike};
 use std::cell::Cell;
 use std::fmt;
 use std::panic::{catch_unwind, resume_unwind, AssertUnwindSafe};
@@ -14,7 +14,7 @@ pub struct Cursor {
     pub prefix: [u32; 3],
 }
 
-#[derive(Clone, Copy, PartialEq)]
+#[derive(Clone, Copy, Debug, PartialEq)]
 pub enum Answer {
     Member(u32),
     Paused,
@@ -32,27 +32,28 @@ impl Answer {
     }
 }
 
+#[derive(Debug, PartialEq)]
 pub struct Step {
     pub cursor: Cursor,
     pub answer: Answer,
     pub reads: u64,
 }
 
-struct Counted<'a> {
-    set: &'a BitSet,
+struct Counted<'a, S> {
+    set: &'a S,
     budget: u64,
     reads: Cell<u64>,
     /// The layer and the index of a read that was not made.
     refused: Cell<Option<(usize, usize)>>,
 }
 
-impl fmt::Debug for Counted<'_> {
+impl<S> fmt::Debug for Counted<'_, S> {
     fn fmt(&self, f: &mut fmt::Formatter) -> fmt::Result {
         f.write_str("counted")
     }
 }
 
-impl BitSetLike for Counted<'_> {
+impl<S: BitSetLike> BitSetLike for Counted<'_, S> {
     fn get_from_layer(&self, layer: usize, idx: usize) -> usize {
         if self.reads.get() == self.budget {
             self.refused.set(Some((layer, idx)));
@@ -83,7 +84,7 @@ impl BitSetLike for Counted<'_> {
     }
 }
 
-fn counted(set: &BitSet, budget: u64) -> Counted<'_> {
+fn counted<S: BitSetLike>(set: &S, budget: u64) -> Counted<'_, S> {
     Counted { set, budget, reads: Cell::new(0), refused: Cell::new(None) }
 }
 
@@ -108,14 +109,14 @@ pub fn is_cursor(cursor: &Cursor) -> bool {
 }
 
 /// A walk that is started: the top word is read.
-pub fn start(set: &BitSet) -> Step {
+pub fn start(set: &impl BitSetLike) -> Step {
     let counted = counted(set, 1);
     let cursor = cursor_of(&(&counted).iter());
     Step { cursor, answer: Answer::Paused, reads: counted.reads.get() }
 }
 
 /// The crate's next, with so many reads at most. A walk that was stopped has taken the bit whose word it did not read: it goes back.
-pub fn next(set: &BitSet, cursor: &Cursor, budget: u64) -> Step {
+pub fn next(set: &impl BitSetLike, cursor: &Cursor, budget: u64) -> Step {
     let counted = counted(set, budget);
     let mut walk = BitIter::new(&counted, cursor.masks.map(|m| m as usize), cursor.prefix);
     let answer = match catch_unwind(AssertUnwindSafe(|| walk.next())) {
@@ -133,6 +134,7 @@ pub fn next(set: &BitSet, cursor: &Cursor, budget: u64) -> Step {
 /// Why a fill stopped: as a script tells it.
 pub const FULL: u64 = 1;
 
+#[derive(Debug, PartialEq)]
 pub struct Batch {
     pub cursor: Cursor,
     pub stop: u64,
@@ -140,11 +142,11 @@ pub struct Batch {
     pub reads: u64,
 }
 
-/// As many members as there are places or the budget allows, by one next of the crate after another.
-pub fn fill(set: &BitSet, from: &Cursor, budget: u64, out: &mut [u32]) -> Batch {
+/// As many members as there are places or the budget allows, by one next after another.
+pub fn fill_by(next: impl Fn(&Cursor, u64) -> Step, from: &Cursor, budget: u64, out: &mut [u32]) -> Batch {
     let mut batch = Batch { cursor: from.clone(), stop: FULL, count: 0, reads: 0 };
     while batch.count < out.len() {
-        let step = next(set, &batch.cursor, budget - batch.reads);
+        let step = next(&batch.cursor, budget - batch.reads);
         batch.reads += step.reads;
         batch.cursor = step.cursor;
         let Answer::Member(id) = step.answer else {
@@ -155,4 +157,9 @@ pub fn fill(set: &BitSet, from: &Cursor, budget: u64, out: &mut [u32]) -> Batch 
         batch.count += 1;
     }
     batch
+}
+
+/// The same by the crate's own next.
+pub fn fill(set: &impl BitSetLike, from: &Cursor, budget: u64, out: &mut [u32]) -> Batch {
+    fill_by(|cursor, left| next(set, cursor, left), from, budget, out)
 }

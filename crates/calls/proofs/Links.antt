@@ -5,7 +5,9 @@ use Prim.Native.Nat.{ℕ, _≤_, _<_}
 use borrow.Author.Tests.{lt-ltb, le-ltb}
 use Rattle.said.specs.Numbers.{Left, left}
 use Rattle.said.specs.declared.Said.{Said}
-use Rattle.calls.specs.Calls.{orElse, then, askOf, asked}
+use Rattle.walkers.specs.Links.{then}
+use Rattle.walkers.proofs.Links.{next-of}
+use Rattle.calls.specs.Calls.{orElse, askOf, asked}
 
 module _ {r : Said} (n m : Said) (e : r ≡ n) where
   pub else-known : r .count < 4 → r ≡ orElse n m
@@ -13,14 +15,6 @@ module _ {r : Said} (n m : Said) (e : r ≡ n) where
 
   pub else-next : 4 ≤ r .count → {k : Said} → k ≡ m → k ≡ orElse n m
   else-next h q = rw (← e, le-ltb (r .count) 4 h) q
-
--- where the desk may have been written to
-module _ (f g : List ℕ → ℕ → ℕ → Left) (desk : List ℕ) (w count : ℕ) {r : Said} {l : List ℕ} (e : left r l ≡ f desk w count) where
-  pub first-of : r .count < 4 → left r l ≡ then f g desk w count
-  first-of h = rw (← e, lt-ltb (r .count) 4 h)
-
-  pub next-of : 4 ≤ r .count → {x : Left} → x ≡ g l w count → x ≡ then f g desk w count
-  next-of h q = rw (← e, le-ltb (r .count) 4 h) q
 
 -- and nothing is written where it is only read
 pub asked-of : (f : List ℕ → ℕ → ℕ → Left) (desk : List ℕ) (w count : ℕ) {r : Said} {l : List ℕ} → left r l ≡ f desk w count → 4 ≤ r .count → {x : Said} → x ≡ askOf l w count

@@ -1,16 +1,15 @@
 -- What a line says, and leaves of the desk, by its command word and the count of its numbers (docs/REPLAY.md): the first crate of commands
 -- that knows them answers. "Any other line .. prints `?`": none knows them.
-use mathlib.Core.Bool.{Bool, cond}
+use mathlib.Core.Bool.{cond}
 use mathlib.Core.List.{List}
 use Prim.Native.Nat.{ℕ}
-use lib.Dec.{ltb}
 use Rattle.said.specs.Numbers.{Left, left}
 use Rattle.said.specs.declared.Said.{Said}
 use Rattle.changes.specs.Calls.{changeOf as ofStores}
 use Rattle.slots.specs.Calls.{changeOf as ofSlots}
 use Rattle.lists.specs.Calls.{changeOf as ofLists}
-use Rattle.walks.specs.Calls.{changeOf as ofWalks}
-use Rattle.fills.specs.Calls.{changeOf as ofFills}
+use Rattle.walkers.specs.Links.{known, then}
+use Rattle.walkers.specs.Calls.{changeOf as ofWalkers}
 use Rattle.merges.specs.Calls.{changeOf as ofMerges}
 use Rattle.maps.specs.Calls.{changeOf as ofMaps}
 use Rattle.asks.specs.Calls.{askOf as ofSets}
@@ -20,23 +19,12 @@ use Rattle.formulas.specs.Calls.{askOf as ofFormulas}
 use Rattle.bits.specs.Calls.{askOf as ofBits}
 
 -- an answer, or what comes next where it is none
-abbrev pub known : Said → Bool
-known n = ltb (n .count) 4
-
 abbrev pub orElse : Said → Said → Said
 orElse n m = cond (known n) n m
-
--- the same of two crates of which the first may have written to the desk
-abbrev pub then : (List ℕ → ℕ → ℕ → Left) → (List ℕ → ℕ → ℕ → Left) → List ℕ → ℕ → ℕ → Left
-then f g desk w count = let x = f desk w count in cond (known (x .said)) x (g (x .lent) w count)
 
 -- the commands that may write to the desk
 unfoldable pub changeOf : List ℕ → ℕ → ℕ → Left
 changeOf = then ofStores (then ofSlots ofLists)
-
--- those that go by more than one slot
-unfoldable pub walkOf : List ℕ → ℕ → ℕ → Left
-walkOf = then ofWalks (then ofFills ofMerges)
 
 -- those that only read it
 unfoldable pub askOf : List ℕ → ℕ → ℕ → Said
@@ -47,9 +35,9 @@ askOf desk w count =
 abbrev pub asked : List ℕ → ℕ → ℕ → Left
 asked desk w count = left (askOf desk w count) desk
 
--- maps, and those
+-- maps and merges, and those
 unfoldable pub otherOf : List ℕ → ℕ → ℕ → Left
-otherOf = then ofMaps asked
+otherOf = then ofMaps (then ofMerges asked)
 
 unfoldable pub callOf : List ℕ → ℕ → ℕ → Left
-callOf = then changeOf (then walkOf otherOf)
+callOf = then changeOf (then ofWalkers otherOf)

@@ -2,7 +2,7 @@
 // A count of 4 says that it does not.
 ghost use mathlib.Core.Path.{_≡_};
 ghost use Rattle.said.specs.Numbers.{left};
-ghost use Rattle.calls.specs.Calls.{changeOf, walkOf, askOf, otherOf, callOf};
+ghost use Rattle.calls.specs.Calls.{changeOf, askOf, otherOf, callOf};
 use said::Said;
 
 // The commands that may write to the desk.
@@ -18,21 +18,6 @@ fn change(desk: &mut [u64], word: u64, count: usize) -> Said
         return b;
     }
     lists::change(desk, word, count)
-}
-
-// Those that go by more than one slot.
-fn walk(desk: &mut [u64], word: u64, count: usize) -> Said
-    ensures { λ r. ⌜ left r (now (desk .exit)) ≡ walkOf (now (desk .entry)) word count ⌝ }
-{
-    let a = walks::change(desk, word, count);
-    if a.count < 4 {
-        return a;
-    }
-    let b = fills::change(desk, word, count);
-    if b.count < 4 {
-        return b;
-    }
-    merges::change(desk, word, count)
 }
 
 // The commands that only read it.
@@ -58,13 +43,17 @@ fn ask(desk: &[u64], word: u64, count: usize) -> Said
     bits::ask(desk, word, count)
 }
 
-// The lines of maps, and the commands that only read.
+// The lines of maps and merges, and the commands that only read.
 fn other(desk: &mut [u64], word: u64, count: usize) -> Said
     ensures { λ r. ⌜ left r (now (desk .exit)) ≡ otherOf (now (desk .entry)) word count ⌝ }
 {
     let a = maps::change(desk, word, count);
     if a.count < 4 {
         return a;
+    }
+    let b = merges::change(desk, word, count);
+    if b.count < 4 {
+        return b;
     }
     ask(desk, word, count)
 }
@@ -77,7 +66,7 @@ pub fn call(desk: &mut [u64], word: u64, count: usize) -> Said
     if a.count < 4 {
         return a;
     }
-    let b = walk(desk, word, count);
+    let b = walkers::change(desk, word, count);
     if b.count < 4 {
         return b;
     }

@@ -8,10 +8,13 @@ use borrow.Rule.Slice.PartMut.{midOf, putMid}
 use lib.Dec.{ltb}
 use lib.ListN.{length, getD, set}
 use Rattle.iter.specs.declared.Cursor.{Cursor}
+use Rattle.iter.specs.declared.Next.{Next}
+use Rattle.said.specs.Numbers.{left}
+use Rattle.said.specs.declared.Said.{Said}
 use Rattle.desk.specs.Slots.{spanOf, partOf, backOf}
 use Rattle.desk.specs.declared.Span.{Span}
 use Rattle.desk.proofs.Laws.{part-is, back-is}
-use Rattle.cursors.specs.Cursors.{isCursor, cursorOf, lowOf, putOf, backAt}
+use Rattle.cursors.specs.Cursors.{isCursor, cursorOf, lowOf, putOf, backAt, toldOf, steppedOf}
 
 module _ (l : List ℕ) where
   pub cursor-short : length l < 7 → false ≡ isCursor l
@@ -52,3 +55,9 @@ back-at desk c k p f {l} e = back-is desk c p (f .0) (f .1) l ∙ ap (backOf des
 pub read-all : (l : List ℕ) {a b c d x y z : ℕ} → a ≡ getD l 0 0 → b ≡ getD l 1 0 → c ≡ getD l 2 0 → d ≡ getD l 3 0 → x ≡ lowOf (getD l 4 0)
     → y ≡ lowOf (getD l 5 0) → z ≡ lowOf (getD l 6 0) → _≡_ {A = Cursor} (record { masks = a ∷ b ∷ c ∷ d ∷ []; prefix = x ∷ y ∷ z ∷ [] }) (cursorOf l)
 read-all l e0 e1 e2 e3 e4 e5 e6 = λ i. record { masks = e0 i ∷ e1 i ∷ e2 i ∷ e3 i ∷ []; prefix = e4 i ∷ e5 i ∷ e6 i ∷ [] }
+
+-- a step's cursor comes back
+pub step-back : (desk : List ℕ) (c : ℕ) (k : Cursor) (answer : Next) (reads : ℕ) {r : Said} {l : List ℕ} → l ≡ backAt desk c k → r ≡ toldOf answer reads
+    → left r l ≡ steppedOf desk c k answer reads
+unfolding steppedOf
+step-back desk c k answer reads e g = ap₂ left g e

@@ -9,7 +9,7 @@ use Rattle.desk.specs.Slots.{isId, partOf, backOf}
 use Rattle.iter.specs.declared.Cursor.{Cursor}
 use Rattle.iter.specs.declared.Next.{Next}
 use Rattle.iter.specs.declared.Next.the-variants.{Member, Paused, End, Refused}
-use Rattle.said.specs.Numbers.{oneOf}
+use Rattle.said.specs.Numbers.{oneOf, Left, left}
 use Rattle.said.specs.declared.Said.{Said}
 
 -- the words of a cursor; a prefix has 32 bits
@@ -46,3 +46,7 @@ toldOf (Member v) r = three 1 v r
 toldOf Paused r = three 2 0 r
 toldOf End r = three 3 0 r
 toldOf (Refused n) r = oneOf n
+
+-- the step's cursor stands in slot c
+unfoldable pub steppedOf : List ℕ → ℕ → Cursor → Next → ℕ → Left
+steppedOf desk c k answer reads = left (toldOf answer reads) (backAt desk c k)

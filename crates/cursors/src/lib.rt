@@ -3,7 +3,8 @@
 ghost use mathlib.Core.Path.{_≡_};
 ghost use lib.ListN.{getD};
 ghost use Rattle.desk.specs.Slots.{partOf};
-ghost use Rattle.cursors.specs.Cursors.{isCursor, lowOf, cursorOf, putOf, backAt, toldOf};
+ghost use Rattle.said.specs.Numbers.{left};
+ghost use Rattle.cursors.specs.Cursors.{isCursor, lowOf, cursorOf, putOf, backAt, toldOf, steppedOf};
 use iter::Cursor;
 use iter::Next;
 use said::Said;
@@ -119,4 +120,12 @@ pub fn told(answer: Next, reads: u64) -> Said
         },
         Next::Refused(number) => said::one(number as u64),
     }
+}
+
+// A step's cursor goes back into slot c, and the step is told.
+pub fn stepped(desk: &mut [u64], c: u64, k: Cursor, answer: Next, reads: u64) -> Said
+    ensures { λ r. ⌜ left r (now (desk .exit)) ≡ steppedOf (now (desk .entry)) c k answer reads ⌝ }
+{
+    put(desk, c, k);
+    told(answer, reads)
 }

@@ -1,27 +1,26 @@
--- What each way out of the code says is what the definition says there, and the loop over the codes.
-use mathlib.Core.List.{List, [], _∷_, map}
+-- What each way out of the code says is what the definition says there.
+use mathlib.Core.List.{List}
 use mathlib.Core.Logic.{_≢_}
-use mathlib.Core.Path.{_≡_, refl, sym, ap, ap₂, _∙_}
-use Prim.Native.Nat.{ℕ, zero, suc, _+_, _%_, _≤_, _<_}
-use native.Mathlib.Decide.{ℕ-discrete}
+use mathlib.Core.Path.{_≡_, sym, ap, subst, _∙_}
+use Prim.Native.Nat.{ℕ, _≤_, _<_}
 use native.Mathlib.Omega.{arith}
 use borrow.Author.Tests.{lt-ltb, le-ltb, le-leb, lt-leb, ne-eqb}
-use lib.ListN.{length, getD, set, take, length-set, length-map}
-use lib.Seq.{ext-getD, getD-take, length-take-le, getD-set-same, getD-set-other}
+use lib.ListN.{length}
 use Rattle.codes.specs.Tree.{four}
 use Rattle.formula.specs.Calls.{layerWordOf, containsOf, isEmptyOf}
 use Rattle.desk.specs.Slots.{numberOf, partOf}
+use Rattle.operands.specs.Operands.{byteOf, numbersOf, slicesOf}
+use Rattle.operands.proofs.Loads.{codes-are, slices-are}
 use Rattle.said.specs.Numbers.{unknown, saidOf}
-use Rattle.formulas.specs.Calls.{fempty, fcontain, fword, codesOf, slicesOf, ask5Of, ask6Of, ask7Of, byCount, askOf}
-use Rattle.formulas.specs.Steps.{Copied}
+use Rattle.said.specs.declared.Said.{Said}
+use Rattle.formulas.specs.Calls.{fempty, fcontain, fword, ask5Of, ask6Of, ask7Of, byCount, askOf}
 
 -- ---- each call, over the slices that the line names
 
 module _ (cs desk : List ℕ) {a b c d : List ℕ} (ea : a ≡ partOf desk (numberOf desk 2)) (eb : b ≡ partOf desk (numberOf desk 3))
     (ec : c ≡ partOf desk (numberOf desk 4)) (ed : d ≡ partOf desk (numberOf desk 5)) where
   slices : four a b c d ≡ slicesOf desk
-  unfolding slicesOf
-  slices = ap₂ (λ (x y : List ℕ). four x y c d) ea eb ∙ ap₂ (λ (x y : List ℕ). four (partOf desk (numberOf desk 2)) (partOf desk (numberOf desk 3)) x y) ec ed
+  slices = slices-are desk ea eb ec ed
 
   pub five-empty : (w : ℕ) → w ≡ fempty → saidOf (isEmptyOf (four a b c d) cs .numbers) ≡ ask5Of cs desk w
   unfolding ask5Of
@@ -75,35 +74,13 @@ module _ (desk : List ℕ) (w count : ℕ) {f : List ℕ} (e : f ≡ partOf desk
   unfolding askOf
   codes-many h = sym (rw (← e, lt-leb (length f) 40 h))
 
-  pub codes-few : length f ≤ 40 → byCount (codesOf f) desk w count ≡ askOf desk w count
+  pub codes-few : length f ≤ 40 → {n : ℕ} → n ≡ length f → byCount (numbersOf byteOf (partOf desk (numberOf desk 1)) 0 n) desk w count ≡ askOf desk w count
   unfolding askOf
-  codes-few h = sym (rw (← e, le-leb (length f) 40 h))
+  codes-few h k =
+      let cs = codes-are (partOf desk (numberOf desk 1)) (k ∙ ap length e) in
+      ap (λ (x : List ℕ). byCount x desk w count) cs ∙ sym (rw (le-leb (length (partOf desk (numberOf desk 1))) 40 (subst (λ (x : List ℕ). length x ≤ 40) e h)))
 
--- ---- the loop
-
-pub copied-none : (ws cs : List ℕ) → length cs ≡ 40 → Copied ws cs 0
-copied-none ws cs l = record { inside = omega arith; long = l; same = λ x h. absurd (omega arith) }
-
-pub copied-one : {ws cs : List ℕ} {i : ℕ} (c : ℕ) → Copied ws cs i → i < length ws → length ws ≤ 40 → c ≡ getD ws i 0 % 256 → Copied ws (set cs i c) (i + 1)
-copied-one {ws} {cs} {i} c g h m e = record {
-  inside = omega arith;
-  long = length-set cs i c ∙ g .long;
-  same = λ x l. go x l (ℕ-discrete x i);
-}
-  where
-    go : (x : ℕ) → x < i + 1 → Dec (x ≡ i) → getD (set cs i c) x 0 ≡ getD ws x 0 % 256
-    go x l (yes q) = ap (λ (y : ℕ). getD (set cs i c) y 0) q ∙ getD-set-same cs i c 0 (omega (arith, g .long)) ∙ e ∙ ap (λ (y : ℕ). getD ws y 0 % 256) (sym q)
-    go x l (no q) = getD-set-other cs i x c 0 q ∙ g .same x (omega arith)
-
-map-at : (f : ℕ → ℕ) (l : List ℕ) (x : ℕ) → x < length l → getD (map f l) x 0 ≡ f (getD l x 0)
-map-at f [] x h = absurd (omega arith)
-map-at f (a ∷ l) zero h = refl
-map-at f (a ∷ l) (suc x) h = map-at f l x (omega arith)
-
-pub all-copied : {ws cs : List ℕ} {i : ℕ} → Copied ws cs i → length ws ≤ i → length ws ≤ 40 → take i cs ≡ codesOf ws
-unfolding codesOf
-all-copied {ws} {cs} {i} g h m =
-    let n : i ≡ length ws = omega (arith, g .inside) in
-    let l : length (take i cs) ≡ i = length-take-le i cs (omega (arith, g .long)) in
-    ext-getD 0 (take i cs) (map (λ w. w % 256) ws) (l ∙ n ∙ sym (length-map ws (λ w. w % 256)))
-    (λ x u. getD-take i cs x 0 (omega (arith, l)) ∙ g .same x (omega (arith, l)) ∙ sym (map-at (λ w. w % 256) ws x (omega (arith, l))))
+  -- the codes, as they are copied
+  pub codes-copied : (n : ℕ) {cs : List ℕ} → cs ≡ numbersOf byteOf f 0 n → {r : Said} → r ≡ byCount cs desk w count
+      → r ≡ byCount (numbersOf byteOf (partOf desk (numberOf desk 1)) 0 n) desk w count
+  codes-copied n g k = k ∙ ap (λ (x : List ℕ). byCount x desk w count) (g ∙ ap (λ (x : List ℕ). numbersOf byteOf x 0 n) e)

@@ -2,13 +2,13 @@
 -- and then the value, where yes is 1 and no and done are 0." "Any other line, also .. one with an unknown word, or one with a wrong count
 -- of numbers, prints `?`".
 use mathlib.Core.Bool.{cond}
-use mathlib.Core.List.{List, map}
-use Prim.Native.Nat.{ℕ, _%_}
+use mathlib.Core.List.{List}
+use Prim.Native.Nat.{ℕ}
 use lib.Dec.{eqb, leb}
 use lib.ListN.{length}
-use Rattle.codes.specs.Tree.{four}
 use Rattle.formula.specs.Calls.{layerWordOf, containsOf, isEmptyOf}
 use Rattle.desk.specs.Slots.{numberOf, isId, partOf}
+use Rattle.operands.specs.Operands.{codesOf, slicesOf}
 use Rattle.said.specs.Numbers.{unknown, saidOf}
 use Rattle.said.specs.declared.Said.{Said}
 
@@ -21,14 +21,6 @@ fcontain = 7377863134752631150
 
 abbrev pub fword : ℕ
 fword = 440090456676
-
--- "The codes are the words of slot F, each modulo 256"
-unfoldable pub codesOf : List ℕ → List ℕ
-codesOf ws = map (λ w. w % 256) ws
-
--- "slots A, B, C and D are the four slices"
-unfoldable pub slicesOf : List ℕ → List (List ℕ)
-slicesOf desk = four (partOf desk (numberOf desk 2)) (partOf desk (numberOf desk 3)) (partOf desk (numberOf desk 4)) (partOf desk (numberOf desk 5))
 
 -- "`fempty F A B C D`: `formula::is_empty`"
 unfoldable pub ask5Of : List ℕ → List ℕ → ℕ → Said

@@ -1,9 +1,9 @@
 // The commands of a script that ask of a formula (docs/REPLAY.md): its codes stand in a slot, one a word, and the stores in four others.
 ghost use mathlib.Core.Path.{_≡_};
-ghost use Prim.Native.Nat.{_≤_};
 ghost use lib.ListN.{length};
 ghost use Rattle.desk.specs.Slots.{numberOf, partOf};
-ghost use Rattle.formulas.specs.Calls.{codesOf, ask5Of, ask6Of, ask7Of, byCount, askOf};
+ghost use Rattle.operands.specs.Operands.{byteOf, numbersOf};
+ghost use Rattle.formulas.specs.Calls.{ask5Of, ask6Of, ask7Of, byCount, askOf};
 use said::Said;
 
 // The command words, a letter a byte, the first the highest.
@@ -16,13 +16,6 @@ const FWORD: u64 = 0x66_776f_7264;
 // An id has 32 bits.
 const LAST_ID: u64 = 4294967295;
 
-// The words of the slot that number j of the line names; none past slot 15.
-fn named(desk: &[u64], j: usize) -> &[u64]
-    ensures { λ r. ⌜ now r ≡ partOf (now (desk .entry)) (numberOf (now (desk .entry)) j) ⌝ }
-{
-    desk::part(desk, store::get(desk, j))
-}
-
 // fempty F A B C D
 fn ask5(codes: &[u8], desk: &[u64], word: u64) -> Said
     ensures { λ r. ⌜ r ≡ ask5Of (now (codes .entry)) (now (desk .entry)) word ⌝ }
@@ -30,10 +23,10 @@ fn ask5(codes: &[u8], desk: &[u64], word: u64) -> Said
     if word == FEMPTY {
         return said::asked(formula::is_empty(
             codes,
-            named(desk, 2),
-            named(desk, 3),
-            named(desk, 4),
-            named(desk, 5),
+            operands::named(desk, 2),
+            operands::named(desk, 3),
+            operands::named(desk, 4),
+            operands::named(desk, 5),
         ));
     }
     said::unknown()
@@ -51,10 +44,10 @@ fn ask6(codes: &[u8], desk: &[u64], word: u64, i: u64) -> Said
     }
     said::asked(formula::contains(
         codes,
-        named(desk, 2),
-        named(desk, 3),
-        named(desk, 4),
-        named(desk, 5),
+        operands::named(desk, 2),
+        operands::named(desk, 3),
+        operands::named(desk, 4),
+        operands::named(desk, 5),
         i as u32,
     ))
 }
@@ -66,10 +59,10 @@ fn ask7(codes: &[u8], desk: &[u64], word: u64, k: u64, i: u64) -> Said
     if word == FWORD {
         return said::read(formula::get_from_layer(
             codes,
-            named(desk, 2),
-            named(desk, 3),
-            named(desk, 4),
-            named(desk, 5),
+            operands::named(desk, 2),
+            operands::named(desk, 3),
+            operands::named(desk, 4),
+            operands::named(desk, 5),
             k as usize,
             i as usize,
         ));
@@ -90,27 +83,21 @@ fn by_count(codes: &[u8], desk: &[u64], word: u64, count: usize) -> Said
 }
 
 // The codes are copied, a byte a word, and asked of.
-fn ask_of(part: &[u64], desk: &[u64], word: u64, count: usize) -> Said
-    requires { ⌜ length (now part) ≤ 40 ⌝ }
-    ensures { λ r. ⌜ r ≡ byCount (codesOf (now (part .entry))) (now (desk .entry)) word count ⌝ }
+fn ask_of(desk: &[u64], word: u64, count: usize, codes: &mut [u8]) -> Said
+    ensures { λ r. ⌜ r ≡ byCount (numbersOf byteOf (partOf (now (desk .entry)) (numberOf (now (desk .entry)) 1)) 0 (length (now (codes .entry)))) (now (desk .entry)) word count ⌝ }
 {
-    let mut codes = [0u8; 40];
-    let mut i = 0usize;
-    while i < part.len() {
-        let w = part[i] % 256;
-        codes[i] = w as u8;
-        i += 1;
-    }
-    by_count(&codes[..i], desk, word, count)
+    operands::bytes(operands::named(desk, 1), codes);
+    by_count(codes, desk, word, count)
 }
 
 // Answers a line by its command word and the count of its numbers, which stand on the desk.
 pub fn ask(desk: &[u64], word: u64, count: usize) -> Said
     ensures { λ r. ⌜ r ≡ askOf (now (desk .entry)) word count ⌝ }
 {
-    let part = named(desk, 1);
-    if 40 < part.len() {
+    let n = operands::named(desk, 1).len();
+    if 40 < n {
         return said::unknown();
     }
-    ask_of(part, desk, word, count)
+    let mut codes = [0u8; 40];
+    ask_of(desk, word, count, &mut codes[..n])
 }

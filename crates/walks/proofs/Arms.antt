@@ -1,19 +1,17 @@
 -- What each way out of the code answers is what the definition answers there.
 use mathlib.Core.Bool.{true, false}
 use mathlib.Core.List.{List}
-use mathlib.Core.Path.{_≡_, sym, ap, ap₂, _∙_}
+use mathlib.Core.Path.{_≡_, sym, ap, _∙_}
 use Prim.Native.Nat.{ℕ, _≤_, _<_}
 use native.Mathlib.Omega.{arith}
 use borrow.Author.Tests.{le-leb, lt-ltb, le-ltb, eq-eqb, ne-eqb}
 use Rattle.iter.specs.Calls.{startIn, nextIn}
-use Rattle.iter.specs.declared.Cursor.{Cursor}
-use Rattle.iter.specs.declared.Next.{Next}
 use Rattle.iter.specs.declared.Step.{Step}
 use Rattle.desk.specs.Slots.{numberOf, partOf}
 use Rattle.said.specs.Numbers.{unknown, Left, left}
 use Rattle.said.specs.declared.Said.{Said}
-use Rattle.cursors.specs.Cursors.{isCursor, cursorOf, backAt, toldOf}
-use Rattle.walks.specs.Calls.{startWord, nextWord, walkOf, takesOf, fitsOf, steppedOf, changeOf}
+use Rattle.cursors.specs.Cursors.{isCursor, cursorOf, steppedOf}
+use Rattle.walks.specs.Calls.{startWord, nextWord, walkOf, takesOf, fitsOf, changeOf}
 
 -- ---- the step
 
@@ -25,12 +23,6 @@ module _ (desk : List ℕ) (w c s b : ℕ) where
   pub walk-next : (w ≡ startWord → ⊥) → walkOf desk w c s b ≡ nextIn (partOf desk s) (cursorOf (partOf desk c)) b
   unfolding walkOf
   walk-next e = rw (ne-eqb w startWord e)
-
--- its cursor comes back
-pub step-back : (desk : List ℕ) (c : ℕ) (k : Cursor) (answer : Next) (reads : ℕ) {r : Said} {l : List ℕ} → l ≡ backAt desk c k → r ≡ toldOf answer reads
-    → left r l ≡ steppedOf desk c k answer reads
-unfolding steppedOf
-step-back desk c k answer reads e g = ap₂ left g e
 
 -- ---- whether the numbers are those of the command
 

@@ -4,10 +4,8 @@ use mathlib.Core.List.{List}
 use Prim.Native.Nat.{ℕ}
 use lib.Dec.{eqb, leb}
 use Rattle.desk.specs.Slots.{numberOf, isSlot, partOf}
-use Rattle.cursors.specs.Cursors.{isCursor, cursorOf, backAt, toldOf}
+use Rattle.cursors.specs.Cursors.{isCursor, cursorOf, steppedOf}
 use Rattle.iter.specs.Calls.{startIn, nextIn}
-use Rattle.iter.specs.declared.Cursor.{Cursor}
-use Rattle.iter.specs.declared.Next.{Next}
 use Rattle.iter.specs.declared.Step.{Step}
 use Rattle.said.specs.Numbers.{unknown, Left, left}
 
@@ -17,10 +15,6 @@ startWord = 495873782388
 
 abbrev pub nextWord : ℕ
 nextWord = 1852143732
-
--- the step's cursor stands in slot c
-unfoldable pub steppedOf : List ℕ → ℕ → Cursor → Next → ℕ → Left
-steppedOf desk c k answer reads = left (toldOf answer reads) (backAt desk c k)
 
 -- "`start C S`: a walk of slot S is started, with slot C as its cursor. `next C S B`: the next member, at a budget of B reads"
 unfoldable pub walkOf : List ℕ → ℕ → ℕ → ℕ → ℕ → Step

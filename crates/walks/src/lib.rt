@@ -1,9 +1,7 @@
 // The commands of a script that walk a store, a step a line (docs/REPLAY.md).
 ghost use mathlib.Core.Path.{_≡_};
 ghost use Rattle.said.specs.Numbers.{left};
-ghost use Rattle.walks.specs.Calls.{steppedOf, walkOf, takesOf, fitsOf, changeOf};
-use iter::Cursor;
-use iter::Next;
+ghost use Rattle.walks.specs.Calls.{walkOf, takesOf, fitsOf, changeOf};
 use iter::Step;
 use said::Said;
 
@@ -11,14 +9,6 @@ use said::Said;
 const START: u64 = 0x73_7461_7274;
 
 const NEXT: u64 = 0x6e65_7874;
-
-// A step's cursor goes back into its slot.
-fn stepped(desk: &mut [u64], c: u64, k: Cursor, answer: Next, reads: u64) -> Said
-    ensures { λ r. ⌜ left r (now (desk .exit)) ≡ steppedOf (now (desk .entry)) c k answer reads ⌝ }
-{
-    cursors::put(desk, c, k);
-    cursors::told(answer, reads)
-}
 
 // start C S, next C S B: the step from the cursor in slot c over the store in slot s.
 fn walk(desk: &[u64], word: u64, c: u64, s: u64, budget: u64) -> Step
@@ -71,7 +61,7 @@ pub fn change(desk: &mut [u64], word: u64, count: usize) -> Said
         let k = t.cursor;
         let a = t.answer;
         let r = t.reads;
-        return stepped(desk, c, k, a, r);
+        return cursors::stepped(desk, c, k, a, r);
     }
     said::unknown()
 }

@@ -1,6 +1,8 @@
 -- `calls::call` meets its contract. Assumes nothing.
-use Rattle.calls.specs.Calls.{then, changeOf, walkOf, otherOf, callOf}
-use Rattle.calls.proofs.Links.{first-of, next-of}
+use Rattle.walkers.specs.Links.{then}
+use Rattle.walkers.specs.Calls.{changeOf as ofWalkers}
+use Rattle.walkers.proofs.Links.{first-of, next-of}
+use Rattle.calls.specs.Calls.{changeOf, otherOf, callOf}
 use borrow.Author.Needs.{needs}
 use Rattle.calls.proofs.call.Statement.{statement}
 use Rattle.calls.proofs.call.Tie as tie
@@ -13,10 +15,10 @@ same-length c = search needs
 
 returns : tie.Need-returns
 unfolding callOf
-returns c = first-of changeOf (then walkOf otherOf) _ _ _ (c .before .before .before .before .change .ensures) (c .if1 .taken)
+returns c = first-of changeOf (then ofWalkers otherOf) _ _ _ (c .before .before .before .before .change .ensures) (c .if1 .taken)
 
-walk-requires : tie.Need-walk-requires
-walk-requires c κs = search needs
+change-requires-2 : tie.Need-change-requires-2
+change-requires-2 c κs = search needs
 
 same-length-2 : tie.Need-same-length-2
 same-length-2 c = search needs
@@ -26,8 +28,8 @@ unfolding callOf
 returns-2 c =
     let b = c .before .before .before .before in
     let t = b .before .before in
-    next-of changeOf (then walkOf otherOf) _ _ _ (t .before .before .before .before .change .ensures) (t .if1 .left)
-    (first-of walkOf otherOf _ _ _ (b .walk .ensures) (c .if2 .taken))
+    next-of changeOf (then ofWalkers otherOf) _ _ _ (t .before .before .before .before .change .ensures) (t .if1 .left)
+    (first-of ofWalkers otherOf _ _ _ (b .change2 .ensures) (c .if2 .taken))
 
 other-requires : tie.Need-other-requires
 other-requires c κs = search needs
@@ -42,8 +44,8 @@ returns-3 c =
     let u = k .before .before in
     let b = u .before .before .before .before in
     let t = b .before .before in
-    next-of changeOf (then walkOf otherOf) _ _ _ (t .before .before .before .before .change .ensures) (t .if1 .left)
-    (next-of walkOf otherOf _ _ _ (b .walk .ensures) (u .if2 .left) (k .other .ensures))
+    next-of changeOf (then ofWalkers otherOf) _ _ _ (t .before .before .before .before .change .ensures) (t .if1 .left)
+    (next-of ofWalkers otherOf _ _ _ (b .change2 .ensures) (u .if2 .left) (k .other .ensures))
 
 pub call-spec : {M : Type 1} → statement M
 call-spec =
@@ -52,7 +54,7 @@ call-spec =
     change-requires
     same-length
     returns
-    walk-requires
+    change-requires-2
     same-length-2
     returns-2
     other-requires

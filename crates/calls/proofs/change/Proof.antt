@@ -2,8 +2,9 @@
 use Rattle.changes.specs.Calls.{changeOf as ofStores}
 use Rattle.slots.specs.Calls.{changeOf as ofSlots}
 use Rattle.lists.specs.Calls.{changeOf as ofLists}
-use Rattle.calls.specs.Calls.{then, changeOf}
-use Rattle.calls.proofs.Links.{first-of, next-of}
+use Rattle.walkers.specs.Links.{then}
+use Rattle.walkers.proofs.Links.{first-of, next-of}
+use Rattle.calls.specs.Calls.{changeOf}
 use borrow.Author.Needs.{needs}
 use Rattle.calls.proofs.change.Statement.{statement}
 use Rattle.calls.proofs.change.Tie as tie

@@ -7,8 +7,8 @@ use Rattle.fills.proofs.batch.Tie as tie
 part-requires : tie.Need-part-requires
 part-requires c κs = search needs
 
-load-requires : tie.Need-load-requires
-load-requires c κs = search needs
+lows-requires : tie.Need-lows-requires
+lows-requires c κs = search needs
 
 take-requires : tie.Need-take-requires
 take-requires c κs = search needs
@@ -28,14 +28,14 @@ returns c =
     let p = f .before .before in
     let t = p .before in
     let l = t .before .before .before in
-    batch-is _ _ (f .fill .ensures) (l .load .ensures) (l .before .before .part .ensures) (p .part2 .ensures) (t .take .ensures)
+    batch-is _ _ (f .fill .ensures) (l .lows .ensures) (l .before .before .part .ensures) (p .part2 .ensures) (t .take .ensures)
 
 pub batch-spec : {M : Type 1} → statement M
 batch-spec =
     tie.close
     (tie.spec
     part-requires
-    load-requires
+    lows-requires
     take-requires
     part-requires-2
     fill-requires

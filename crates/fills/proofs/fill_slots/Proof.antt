@@ -1,7 +1,8 @@
 -- `fills::fill_slots` meets its contract. Assumes nothing.
 use mathlib.Core.Path.{sym, ap, _∙_}
 use lib.Seq.{length-take-le}
-use Rattle.fills.specs.Calls.{placesOf, fillAt}
+use Rattle.places.specs.Places.{placesOf}
+use Rattle.fills.specs.Calls.{fillAt}
 use borrow.Author.Needs.{needs}
 use Rattle.fills.proofs.fill_slots.Statement.{statement}
 use Rattle.fills.proofs.fill_slots.Tie as tie
@@ -9,8 +10,8 @@ use Rattle.fills.proofs.fill_slots.Tie as tie
 part-requires : tie.Need-part-requires
 part-requires c κs = search needs
 
-places-requires : tie.Need-places-requires
-places-requires c κs = search needs
+count-requires : tie.Need-count-requires
+count-requires c κs = search needs
 
 array-borrow-prefix-ids : tie.Need-array-borrow-prefix-ids
 array-borrow-prefix-ids c = search needs
@@ -28,14 +29,14 @@ returns : tie.Need-returns
 returns c =
     let f = c .before .before .before in
     let n = f .before .before .before in
-    f .fill .ensures ∙ ap (fillAt _ _ _ _ _) (length-take-le _ _ (search needs) ∙ n .places .ensures ∙ ap placesOf (n .before .part .ensures))
+    f .fill .ensures ∙ ap (fillAt _ _ _ _ _) (length-take-le _ _ (search needs) ∙ n .count .ensures ∙ ap placesOf (n .before .part .ensures))
 
 pub fill-slots-spec : {M : Type 1} → statement M
 fill-slots-spec =
     tie.close
     (tie.spec
     part-requires
-    places-requires
+    count-requires
     array-borrow-prefix-ids
     slice-aggregate-fill
     fill-requires
