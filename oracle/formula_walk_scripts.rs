@@ -6,8 +6,10 @@ use crate::store_scripts::id;
 use crate::walk_scripts::{budget, places, poke, room, word, CURSOR};
 use std::io::{self, Write};
 
-/// Around every border, and the capacity of the samples.
-const CAPACITIES: &[u64] = &[1, 63, 64, 65, 4_095, 4_096, 4_097, 262_143, 262_144, 262_145, 262_151, 262_152, LIMIT];
+/// Around every border, and up to the capacity of the samples.
+const CAPACITIES: &[u64] = &[
+    1, 63, 64, 65, 4_095, 4_096, 4_097, 262_143, 262_144, 262_145, 262_146, 262_147, 262_148, 262_149, 262_150, 262_151, 262_152, LIMIT,
+];
 
 /// How many stores are lent at a capacity, and how: the memory has room for two of the largest.
 fn lent(n: u64) -> (usize, &'static str) {

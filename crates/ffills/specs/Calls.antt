@@ -1,5 +1,5 @@
--- What the command that fills from a formula says, and leaves of the desk. docs/REPLAY.md: "`ffill F A B C D K N P`: `formula_fill`'s `fill`, at a
--- budget of N reads, with slot K as the cursor and the words of slot P as its places".
+-- What the command that fills from a formula says, and leaves of the desk. docs/REPLAY.md: "`ffill F A B C D K N P`: `formula_fill::fill`, with slot
+-- P as the places; says what `fill` says, and the cursor goes back first, then the places".
 use mathlib.Core.Bool.{cond}
 use mathlib.Core.List.{List}
 use Prim.Native.Nat.{ℕ}

@@ -1,5 +1,5 @@
--- What the commands that walk a formula say, and leave of the desk. docs/REPLAY.md: "`fstart F A B C D K`: `formula_iter`'s `start`, with slot K as
--- the cursor. `fnext F A B C D K N`: `formula_iter`'s `next`, at a budget of N reads".
+-- What the commands that walk a formula say, and leave of the desk. docs/REPLAY.md: "`fstart F A B C D K`: `formula_iter::start`, with slot K as
+-- the cursor. `fnext F A B C D K N`: `formula_iter::next`"; "N is its budget of reads".
 use mathlib.Core.Bool.{Bool, cond, _&&_}
 use mathlib.Core.List.{List}
 use Prim.Native.Nat.{ℕ}
