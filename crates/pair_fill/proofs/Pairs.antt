@@ -18,7 +18,7 @@ use Rattle.fill.specs.declared.Stop.the-variants.{Refused}
 use Rattle.fill.specs.Fill.{Filled, stopped, fillFrom, batchPaper, filled}
 use Rattle.fill.proofs.Fills.{fill-same, fill-answered}
 use Rattle.codes.specs.Tree.{xorIn}
-use Rattle.pair_fill.specs.Pair.{joined, joinedParts, pairWords, fillIn, fillOf}
+use Rattle.pair_fill.specs.Pair.{joined, joinedParts, pairWords, pairIn, pairOf}
 
 -- ---- what a code makes
 
@@ -69,23 +69,23 @@ module _ (code : ℕ) (a b : List ℕ) (c : Cursor) (n : ℕ) (out : List ℕ) {
       go true e = e
       go false e = absurd (omega (arith, h, by-prefixes false e))
 
-  pub pair-refused : no ≢ 0 → {r : Batch} → r ≡ record { cursor = c; reads = 0; count = 0; stop = Refused no } → Settled batchPaper (fillOf code a b c n out) r out
-  unfolding fillIn
+  pub pair-refused : no ≢ 0 → {r : Batch} → r ≡ record { cursor = c; reads = 0; count = 0; stop = Refused no } → Settled batchPaper (pairOf code a b c n out) r out
+  unfolding pairIn
   pair-refused h {r} is = go (fits 3 c) refl
     where
-      go : (x : Bool) → fits 3 c ≡ x → Settled batchPaper (fillOf code a b c n out) r out
+      go : (x : Bool) → fits 3 c ≡ x → Settled batchPaper (pairOf code a b c n out) r out
       go true e = absurd (h (by-prefixes true e))
       go false e =
-          let w : fillIn code a b c n (length out) ≡ stopped (Refused no) 0 c = rw e (ap (λ (z : ℕ). stopped (Refused z) 0 c) (sym (by-prefixes false e))) in
+          let w : pairIn code a b c n (length out) ≡ stopped (Refused no) 0 c = rw e (ap (λ (z : ℕ). stopped (Refused z) 0 c) (sym (by-prefixes false e))) in
           settled (ap (λ (z : Filled). filled z out) w ∙ ap (λ (z : Batch). record { numbers = batchPaper .numbers z; lent = out }) (sym is))
 
   pub pair-runs : {a2 a1 a0 b2 b1 b0 : List ℕ} → no ≡ 0 → a2 ≡ layerPart a 2 → a1 ≡ layerPart a 1 → a0 ≡ layerPart a 0
       → b2 ≡ layerPart b 2 → b1 ≡ layerPart b 1 → b0 ≡ layerPart b 0 → {r : Batch} {x : List ℕ}
       → Settled batchPaper (filled (fillFrom (joinedParts code (a0 ∷ a1 ∷ a2 ∷ []) (b0 ∷ b1 ∷ b2 ∷ [])) 3 (length out) n c) out) r x
-      → Settled batchPaper (fillOf code a b c n out) r x
-  unfolding fillIn
+      → Settled batchPaper (pairOf code a b c n out) r x
+  unfolding pairIn
   pair-runs {a2} {a1} {a0} {b2} {b1} {b0} h ea2 ea1 ea0 eb2 eb1 eb0 s =
-      let w : fillIn code a b c n (length out) ≡ fillFrom (pairWords code a b) 3 (length out) n c = rw (was-taken h) in
+      let w : pairIn code a b c n (length out) ≡ fillFrom (pairWords code a b) 3 (length out) n c = rw (was-taken h) in
       fill-answered out
       (fill-same (joinedParts code (a0 ∷ a1 ∷ a2 ∷ []) (b0 ∷ b1 ∷ b2 ∷ [])) (pairWords code a b) 3
       (λ k i l. ap₂ (joined code k) (three-parts a ea2 ea1 ea0 k i l) (three-parts b eb2 eb1 eb0 k i l)) (length out) n c ∙ sym w)

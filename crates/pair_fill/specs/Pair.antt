@@ -27,10 +27,10 @@ abbrev pub pairWords : ℕ → List ℕ → List ℕ → ℕ → ℕ → ℕ
 pairWords code a b k i = joined code k (getD (layerPart a k) i 0) (getD (layerPart b k) i 0)
 
 -- refusal 7 alone
-unfoldable pub fillIn : ℕ → List ℕ → List ℕ → Cursor → ℕ → ℕ → Filled
-fillIn code a b c n m =
+unfoldable pub pairIn : ℕ → List ℕ → List ℕ → Cursor → ℕ → ℕ → Filled
+pairIn code a b c n m =
     let f = fillFrom (pairWords code a b) 3 m n c in
     cond (fits 3 c) f (stopped (Refused 7) 0 c)
 
-abbrev pub fillOf : ℕ → List ℕ → List ℕ → Cursor → ℕ → List ℕ → Outcome (List ℕ)
-fillOf code a b c n out = filled (fillIn code a b c n (length out)) out
+abbrev pub pairOf : ℕ → List ℕ → List ℕ → Cursor → ℕ → List ℕ → Outcome (List ℕ)
+pairOf code a b c n out = filled (pairIn code a b c n (length out)) out

@@ -9,7 +9,7 @@ ghost use Rattle.iter.specs.Calls.{Fine};
 ghost use Rattle.iter.specs.Steps.{isReading, Lowers, Sinks};
 ghost use Rattle.iter.specs.Walk.{lowLayer, kind};
 ghost use Rattle.fill.specs.Fill.{fillFrom, batchPaper, filled};
-ghost use Rattle.pair_fill.specs.Pair.{joined, joinedParts, fillOf};
+ghost use Rattle.pair_fill.specs.Pair.{joined, joinedParts, pairOf};
 use fill::Batch;
 use fill::Stop;
 use iter::Cursor;
@@ -139,7 +139,7 @@ fn fill_in(
 
 // As many members of two joined stores as `out` holds or the budget allows. A slice that is no store has no members.
 pub fn fill(c: Cursor, code: u8, a: &[u64], b: &[u64], budget: u64, out: &mut [u32]) -> Batch
-    ensures { λ r. ⌜ Settled batchPaper (fillOf code (now (a .entry)) (now (b .entry)) c budget (now (out .entry))) r (now (out .exit)) ⌝ }
+    ensures { λ r. ⌜ Settled batchPaper (pairOf code (now (a .entry)) (now (b .entry)) c budget (now (out .entry))) r (now (out .exit)) ⌝ }
 {
     let no = c.refusal(1);
     if no != 0 {
