@@ -5,7 +5,7 @@ use Prim.Native.Nat.{ℕ, _<_}
 use native.Mathlib.Decide.{ℕ-discrete, decLt}
 use native.Mathlib.Omega.{arith}
 use borrow.Author.Tests.{lt-ltb}
-use lib.ListN.{length, getD}
+use lib.ListN.{getD}
 use Rattle.store.specs.Layout.{layerLen, cap, isStore, isCap}
 use Rattle.store.specs.Word.{word}
 use Rattle.store.proofs.Words.{word-in, word-out}

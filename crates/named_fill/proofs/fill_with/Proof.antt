@@ -3,7 +3,7 @@ use mathlib.Core.List.{List}
 use mathlib.Core.Path.{_≡_}
 use Prim.Native.Nat.{ℕ, _%_}
 use native.Mathlib.Omega.{arith}
-use Rattle.codes.specs.Tree.{four, nth}
+use Rattle.codes.specs.Tree.{four}
 use Rattle.pair_fill.specs.Pair.{pairOf}
 use Rattle.named_fill.proofs.Named.{by-name}
 use borrow.Author.Needs.{needs}

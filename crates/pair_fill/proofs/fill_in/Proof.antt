@@ -1,10 +1,10 @@
 -- `pair_fill::fill_in` meets its contract. The invariant: what stands in `out` and what a fill of its other places hands out are what the
 -- whole fill hands out. Assumes nothing.
 use mathlib.Core.List.{[], _∷_}
-use Prim.Native.Nat.{_+_, _-_, _*_, _^_, _<_}
+use Prim.Native.Nat.{_-_, _*_, _^_, _<_}
 use native.Mathlib.Omega.{arith}
 use borrow.Author.Needs.{needs}
-use lib.ListN.{length, length-set}
+use lib.ListN.{length}
 use Rattle.pair_fill.specs.Pair.{joinedParts}
 use Rattle.iter.specs.Steps.{Sank}
 use Rattle.fill.specs.Steps.{Filling}
