@@ -4,6 +4,7 @@ use mathlib.Core.List.{List, [], _∷_}
 use mathlib.Core.Logic.{_≢_}
 use mathlib.Core.Path.{_≡_, refl, sym, ap, ap₂, _∙_}
 use Prim.Native.Nat.{ℕ, zero, suc, _<_}
+use native.Mathlib.Decide.{ℕ-discrete}
 use native.Mathlib.Omega.{arith}
 use borrow.Author.Tests.{eq-eqb, ne-eqb}
 use lib.Bits.{bitAnd, bitOr, bitXor}
@@ -40,10 +41,15 @@ module _ (code k x y : ℕ) where
     unfolding xorIn
     joined-ids o z = ap (λ (l : ℕ). xorIn l x y) (sym z) ∙ joined-xor o
 
-pub joined-above : (code k x y : ℕ) → code ≢ 16 → code ≢ 17 → k ≢ 0 → bitOr x y ≡ joined code k x y
+-- above layer 0 or and xor are alike
+pub joined-above : (code k x y : ℕ) → code ≢ 16 → k ≢ 0 → bitOr x y ≡ joined code k x y
 unfolding xorIn
-joined-above code zero x y n o z = absurd (z refl)
-joined-above code (suc k) x y n o z = joined-xor code (suc k) x y n o
+joined-above code zero x y n z = absurd (z refl)
+joined-above code (suc k) x y n z = go (ℕ-discrete code 17)
+  where
+    go : Dec (code ≡ 17) → bitOr x y ≡ joined code (suc k) x y
+    go (yes e) = joined-or code (suc k) x y n e
+    go (no o) = joined-xor code (suc k) x y n o
 
 -- ---- the layers
 

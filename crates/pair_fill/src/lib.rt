@@ -22,10 +22,10 @@ fn joined(code: u8, k: usize, x: u64, y: u64) -> u64
     if code == 16 {
         return x & y;
     }
-    if code == 17 {
+    if k != 0 {
         return x | y;
     }
-    if k == 0 {
+    if code != 17 {
         return x ^ y;
     }
     x | y

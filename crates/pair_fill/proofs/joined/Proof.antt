@@ -10,21 +10,21 @@ returns-2 : tie.Need-returns-2
 returns-2 c =
     let e = c .before in
     let a = e .before .args in
-    joined-or (a .code) (a .k) (a .x) (a .y) (e .if1 .left) (c .if2 .taken)
+    joined-above (a .code) (a .k) (a .x) (a .y) (e .if1 .left) (c .if2 .taken)
 
 returns-3 : tie.Need-returns-3
 returns-3 c =
     let f = c .before in
     let e = f .before in
     let a = e .before .args in
-    joined-ids (a .code) (a .k) (a .x) (a .y) (e .if1 .left) (f .if2 .left) (c .if3 .taken)
+    joined-ids (a .code) (a .k) (a .x) (a .y) (e .if1 .left) (c .if3 .taken) (f .if2 .left)
 
 returns-4 : tie.Need-returns-4
 returns-4 c =
     let f = c .before in
     let e = f .before in
     let a = e .before .args in
-    joined-above (a .code) (a .k) (a .x) (a .y) (e .if1 .left) (f .if2 .left) (c .if3 .left)
+    joined-or (a .code) (a .k) (a .x) (a .y) (e .if1 .left) (c .if3 .left)
 
 pub joined-spec : {M : Type 1} → statement M
 joined-spec = tie.close (tie.spec returns returns-2 returns-3 returns-4)
