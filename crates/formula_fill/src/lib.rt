@@ -105,7 +105,7 @@ pub fn fill(
         return refused(c, no);
     }
     if machine::is_pair(codes) {
-        return named_fill::fill(c, codes[0], codes[1], codes[2], s0, s1, s2, s3, budget, out);
+        return named_fill::fill(c, codes, s0, s1, s2, s3, budget, out);
     }
     let n = store::get(s0, 0) as usize;
     fill_in(c, codes, n, s0, s1, s2, s3, budget, out)

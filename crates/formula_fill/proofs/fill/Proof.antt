@@ -1,8 +1,5 @@
 -- `formula_fill::fill` meets its contract: a pair over the layers of its stores, any other codes by the machine. Assumes nothing.
 use mathlib.Core.Path.{sym, _∙_}
-use Prim.Native.Nat.{_<_}
-use native.Mathlib.Omega.{arith}
-use lib.ListN.{length}
 use Rattle.iter.proofs.Cursors.{fine-of}
 use Rattle.machine.specs.Steps.{Pair}
 use Rattle.machine.proofs.Arms.{pair-of}
@@ -35,24 +32,6 @@ is-pair-requires c κs = search needs
 pair-here : (c : tie.Then2) → Pair (begin (c .before .before .before) .args .codes .now)
 pair-here c = pair-of _ (sym (c .before .is-pair .ensures) ∙ c .if2 .taken)
 
-codes-here : (c : tie.Then2) → 2 < length (begin (c .before .before .before) .args .codes .now)
-codes-here c = omega (arith, pair-here c .three)
-
-shared-slice-read-fill : tie.Need-shared-slice-read-fill
-shared-slice-read-fill c =
-    let t = c .before in
-    let h : 0 < length (begin (t .before .before .before) .args .codes .now) = omega (arith, codes-here t) in
-    h
-
-shared-slice-read-fill-2 : tie.Need-shared-slice-read-fill-2
-shared-slice-read-fill-2 c =
-    let t = c .before .before in
-    let h : 1 < length (begin (t .before .before .before) .args .codes .now) = omega (arith, codes-here t) in
-    h
-
-shared-slice-read-fill-3 : tie.Need-shared-slice-read-fill-3
-shared-slice-read-fill-3 c = codes-here (c .before .before .before)
-
 fill-requires : tie.Need-fill-requires
 fill-requires c κs = search needs
 
@@ -62,7 +41,7 @@ same-length c = search needs
 returns-2 : tie.Need-returns-2
 returns-2 c =
     let f = c .before .before in
-    let t = f .before .before .before .before .before in
+    let t = f .before .before in
     let e = t .before .before in
     let a = begin (e .before) .args in
     fill-joins (a .s0 .now) (a .s1 .now) (a .s2 .now) (a .s3 .now) (a .codes .now) (a .c) (e .before .refusal .ensures) (a .budget) (a .out .now) (e .if1 .left) (pair-here t) (f .fill .ensures)
@@ -95,9 +74,6 @@ fill-spec =
     refused-requires
     returns
     is-pair-requires
-    shared-slice-read-fill
-    shared-slice-read-fill-2
-    shared-slice-read-fill-3
     fill-requires
     same-length
     returns-2
