@@ -2,10 +2,10 @@
 use mathlib.Core.List.{List}
 use mathlib.Core.Logic.{_≢_}
 use mathlib.Core.Path.{_≡_, sym, ap, _∙_}
-use Prim.Native.Nat.{ℕ}
+use Prim.Native.Nat.{ℕ, _%_}
 use native.Mathlib.Omega.{arith}
 use borrow.Author.Tests.{ne-eqb}
-use lib.ListN.{length}
+use lib.ListN.{length, getD}
 use Rattle.util.specs.Outcome.{Settled, settled}
 use Rattle.store.specs.Layout.{top, cap}
 use Rattle.iter.specs.declared.Cursor.{Cursor}
@@ -13,12 +13,16 @@ use Rattle.fill.specs.declared.Batch.{Batch}
 use Rattle.fill.specs.declared.Stop.the-variants.{Refused}
 use Rattle.fill.specs.Fill.{Filled, stopped, fillFrom, batchPaper, filled}
 use Rattle.fill.proofs.Fills.{fill-same, fill-answered}
-use Rattle.codes.specs.Tree.{four}
+use Rattle.codes.specs.Tree.{four, nth}
+use Rattle.codes.proofs.Accepted.{accepted}
 use Rattle.machine.specs.Machine.{machineWord}
+use Rattle.machine.specs.Steps.{Pair}
 use Rattle.formula.specs.Calls.{wordsOf}
 use Rattle.formula_iter.specs.Calls.{refusalIn}
 use Rattle.formula_iter.proofs.Answers.{none-refused, walked-words}
+use Rattle.pair_fill.specs.Pair.{pairWords, pairIn, pairOf}
 use Rattle.formula_fill.specs.Calls.{fillIn, fillOf}
+use Rattle.formula_fill.proofs.Pairs.{pair-words}
 
 module _ (a b c d cs : List ℕ) (k : Cursor) {n : ℕ} (n-is : n ≡ refusalIn (four a b c d) cs k) (m : ℕ) (out : List ℕ) where
   abbrev ss : List (List ℕ)
@@ -37,3 +41,16 @@ module _ (a b c d cs : List ℕ) (k : Cursor) {n : ℕ} (n-is : n ≡ refusalIn 
       let z = none-refused a b c d cs k n-is h .0 in
       let w : fillIn ss cs k m (length out) ≡ fillFrom (wordsOf ss cs) 3 (length out) m k = rw (← n-is, h) in
       fill-answered out (fill-same (machineWord N ss cs) (wordsOf ss cs) 3 (λ j i l. walked-words a b c d cs z N-is j i (omega arith)) (length out) m k ∙ sym w) s
+
+  -- two stores and what joins them
+  pub fill-joins : n ≡ 0 → Pair cs → {r : Batch} {x : List ℕ}
+      → Settled batchPaper (pairOf (getD cs 2 0) (nth ss (getD cs 0 0 % 4)) (nth ss (getD cs 1 0 % 4)) k m out) r x → Settled batchPaper (fillOf ss cs k m out) r x
+  unfolding fillIn pairIn top
+  fill-joins h p s =
+      let z = none-refused a b c d cs k n-is h in
+      let e : getD cs 0 0 % 4 ≡ getD cs 0 0 = omega (arith, p .first) in
+      let f : getD cs 1 0 % 4 ≡ getD cs 1 0 = omega (arith, p .second) in
+      let lw = pairWords (getD cs 2 0) (nth ss (getD cs 0 0)) (nth ss (getD cs 1 0)) in
+      let v : pairIn (getD cs 2 0) (nth ss (getD cs 0 0 % 4)) (nth ss (getD cs 1 0 % 4)) k m (length out) ≡ fillFrom lw 3 (length out) m k = rw (z .1, e, f) in
+      let w : fillIn ss cs k m (length out) ≡ fillFrom (wordsOf ss cs) 3 (length out) m k = rw (← n-is, h) in
+      fill-answered out (v ∙ fill-same lw (wordsOf ss cs) 3 (pair-words a b c d cs (accepted a b c d cs (z .0)) p) (length out) m k ∙ sym w) s

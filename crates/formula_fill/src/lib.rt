@@ -104,6 +104,9 @@ pub fn fill(
     if no != 0 {
         return refused(c, no);
     }
+    if machine::is_pair(codes) {
+        return named_fill::fill(c, codes, s0, s1, s2, s3, budget, out);
+    }
     let n = store::get(s0, 0) as usize;
     fill_in(c, codes, n, s0, s1, s2, s3, budget, out)
 }

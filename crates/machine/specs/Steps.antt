@@ -1,7 +1,9 @@
 -- What the loop over the codes keeps, and what a short way asks.
+use mathlib.Core.Bool.{Bool, _&&_}
 use mathlib.Core.List.{List}
 use mathlib.Core.Path.{_≡_}
 use Prim.Native.Nat.{ℕ, _≤_, _<_}
+use lib.Dec.{leb, ltb, eqb}
 use lib.ListN.{length, getD, drop}
 use Rattle.machine.specs.Machine.{evaluated, begun}
 
@@ -10,7 +12,11 @@ pub record Going (k cut : ℕ) (ws cs v : List ℕ) (d b j : ℕ) : Type 0 where
   pub inside : d < 8
   pub same : evaluated k cut ws (drop j cs) (record { words = v; place = d; last = b }) ≡ evaluated k cut ws cs begun
 
--- two stores and a code that joins them
+-- two stores and a code that joins them: "0 to 3 a store, 16 and, 17 or, 18 xor"
+unfoldable pub isPair : List ℕ → Bool
+isPair cs = eqb (length cs) 3 && (ltb (getD cs 0 0) 4 && (ltb (getD cs 1 0) 4 && (leb 16 (getD cs 2 0) && ltb (getD cs 2 0) 19)))
+
+-- the same as facts
 pub record Pair (cs : List ℕ) : Type 0 where
   pub three : length cs ≡ 3
   pub first : getD cs 0 0 < 4

@@ -1,12 +1,11 @@
 // The layer word of a formula, its codes one after another on a stack: the Rust's `BitSetAnd`, `BitSetOr`, `BitSetXor`, `BitSetNot` and
 // `BitSetAll` of ops.rs.
-ghost use mathlib.Core.Bool.{true};
 ghost use mathlib.Core.Path.{_≡_};
 ghost use Prim.Native.Nat.{suc, _≤_, _<_};
 ghost use lib.ListN.{getD};
 ghost use Rattle.codes.specs.Tree.{existing, four, nth};
 ghost use Rattle.codes.specs.Codes.{kindOf};
-ghost use Rattle.machine.specs.Steps.{Pair};
+ghost use Rattle.machine.specs.Steps.{isPair};
 ghost use Rattle.machine.specs.Machine.{wordsIn, placesIn, placeOf, made, moves, evaluated, begun, machineWord};
 
 // The words of layer k.
@@ -111,8 +110,8 @@ fn evaluate(codes: &[u8], k: usize, cut: u64, words: &[u64; 4]) -> u64
 }
 
 // Whether the codes are two stores and what joins them, the commonest formula: it needs no stack.
-fn is_pair(codes: &[u8]) -> bool
-    ensures { λ r. ⌜ (r ≡ true → Pair (now (codes .entry))) ⌝ }
+pub fn is_pair(codes: &[u8]) -> bool
+    ensures { λ r. ⌜ r ≡ isPair (now (codes .entry)) ⌝ }
 {
     if codes.len() != 3 {
         return false;

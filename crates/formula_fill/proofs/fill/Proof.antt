@@ -1,10 +1,17 @@
--- `formula_fill::fill` meets its contract. Assumes nothing.
+-- `formula_fill::fill` meets its contract: a pair over the layers of its stores, any other codes by the machine. Assumes nothing.
+use mathlib.Core.Path.{sym, _∙_}
 use Rattle.iter.proofs.Cursors.{fine-of}
+use Rattle.machine.specs.Steps.{Pair}
+use Rattle.machine.proofs.Arms.{pair-of}
 use Rattle.formula_iter.proofs.Answers.{none-refused}
-use Rattle.formula_fill.proofs.Answers.{fill-refused, fill-runs}
+use Rattle.formula_fill.proofs.Answers.{fill-refused, fill-joins, fill-runs}
 use borrow.Author.Needs.{needs}
 use Rattle.formula_fill.proofs.fill.Statement.{statement}
 use Rattle.formula_fill.proofs.fill.Tie as tie
+
+-- where it begins
+abbrev begin : tie.After-refusal → tie.Start
+begin c = c .before .before .before .before .before .before .before
 
 refusal-requires : tie.Need-refusal-requires
 refusal-requires c κs = search needs
@@ -15,17 +22,18 @@ refused-requires c κs = search needs
 returns : tie.Need-returns
 returns c =
     let t = c .before in
-    let a = t .before .before .before .before .before .before .before .before .args in
+    let a = begin (t .before) .args in
     fill-refused (a .s0 .now) (a .s1 .now) (a .s2 .now) (a .s3 .now) (a .codes .now) (a .c) (t .before .refusal .ensures) (a .budget) (a .out .now) (t .if1 .taken) (c .refused .ensures)
 
-get-requires : tie.Need-get-requires
-get-requires c κs = search needs
+is-pair-requires : tie.Need-is-pair-requires
+is-pair-requires c κs = search needs
 
-fill-in-requires : tie.Need-fill-in-requires
-fill-in-requires c κs =
-    let e = c .before .before in
-    let a = e .before .before .before .before .before .before .before .before .args in
-    fine-of 3 _ (none-refused (a .s0 .now) (a .s1 .now) (a .s2 .now) (a .s3 .now) (a .codes .now) (a .c) (e .before .refusal .ensures) (e .if1 .left) .1)
+-- past the test the codes are a pair
+pair-here : (c : tie.Then2) → Pair (begin (c .before .before .before) .args .codes .now)
+pair-here c = pair-of _ (sym (c .before .is-pair .ensures) ∙ c .if2 .taken)
+
+fill-requires : tie.Need-fill-requires
+fill-requires c κs = search needs
 
 same-length : tie.Need-same-length
 same-length c = search needs
@@ -33,9 +41,29 @@ same-length c = search needs
 returns-2 : tie.Need-returns-2
 returns-2 c =
     let f = c .before .before in
+    let t = f .before .before in
+    let e = t .before .before in
+    let a = begin (e .before) .args in
+    fill-joins (a .s0 .now) (a .s1 .now) (a .s2 .now) (a .s3 .now) (a .codes .now) (a .c) (e .before .refusal .ensures) (a .budget) (a .out .now) (e .if1 .left) (pair-here t) (f .fill .ensures)
+
+get-requires : tie.Need-get-requires
+get-requires c κs = search needs
+
+fill-in-requires : tie.Need-fill-in-requires
+fill-in-requires c κs =
+    let e = c .before .before .before .before in
+    let a = begin (e .before) .args in
+    fine-of 3 _ (none-refused (a .s0 .now) (a .s1 .now) (a .s2 .now) (a .s3 .now) (a .codes .now) (a .c) (e .before .refusal .ensures) (e .if1 .left) .1)
+
+same-length-2 : tie.Need-same-length-2
+same-length-2 c = search needs
+
+returns-3 : tie.Need-returns-3
+returns-3 c =
+    let f = c .before .before in
     let g = f .before .before in
-    let e = g .before in
-    let a = e .before .before .before .before .before .before .before .before .args in
+    let e = g .before .before .before in
+    let a = begin (e .before) .args in
     fill-runs (a .s0 .now) (a .s1 .now) (a .s2 .now) (a .s3 .now) (a .codes .now) (a .c) (e .before .refusal .ensures) (a .budget) (a .out .now) (e .if1 .left) (g .get .ensures) (f .fill-in .ensures)
 
 pub fill-spec : {M : Type 1} → statement M
@@ -45,7 +73,11 @@ fill-spec =
     refusal-requires
     refused-requires
     returns
+    is-pair-requires
+    fill-requires
+    same-length
+    returns-2
     get-requires
     fill-in-requires
-    same-length
-    returns-2)
+    same-length-2
+    returns-3)

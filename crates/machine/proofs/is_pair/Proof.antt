@@ -1,32 +1,30 @@
 -- `machine::is_pair` meets its contract. Assumes nothing.
-use mathlib.Core.Bool.{true≢false}
-use mathlib.Core.Path.{sym}
 use native.Mathlib.Omega.{arith}
-use borrow.Author.Tests.{ltb-true}
+use Rattle.machine.proofs.Arms.{no-pair, pair-last}
 use borrow.Author.Needs.{needs}
 use Rattle.machine.proofs.is_pair.Statement.{statement}
 use Rattle.machine.proofs.is_pair.Tie as tie
 
 returns : tie.Need-returns
-returns c = λ e. absurd (true≢false (sym e))
+returns c = no-pair _ λ p. c .if1 .taken (p .three)
 
 shared-slice-read-if2 : tie.Need-shared-slice-read-if2
 shared-slice-read-if2 c = search needs
 
 returns-2 : tie.Need-returns-2
-returns-2 c = λ e. absurd (true≢false (sym e))
+returns-2 c = no-pair _ λ p. omega (arith, c .if2 .taken, p .first)
 
 shared-slice-read-if3 : tie.Need-shared-slice-read-if3
 shared-slice-read-if3 c = search needs
 
 returns-3 : tie.Need-returns-3
-returns-3 c = λ e. absurd (true≢false (sym e))
+returns-3 c = no-pair _ λ p. omega (arith, c .if3 .taken, p .second)
 
 shared-slice-read-if4 : tie.Need-shared-slice-read-if4
 shared-slice-read-if4 c = search needs
 
 returns-4 : tie.Need-returns-4
-returns-4 c = λ e. absurd (true≢false (sym e))
+returns-4 c = no-pair _ λ p. omega (arith, c .if4 .taken, p .joins)
 
 shared-slice-read-result : tie.Need-shared-slice-read-result
 shared-slice-read-result c = search needs
@@ -37,14 +35,7 @@ returns-5 c =
     let i3 = i4 .before .before in
     let i2 = i3 .before .before in
     let i1 = i2 .before .before in
-    λ e.
-    record {
-      three = i1 .if1 .left;
-      first = omega (arith, i2 .if2 .left);
-      second = omega (arith, i3 .if3 .left);
-      joins = i4 .if4 .left;
-      known = ltb-true _ 19 e;
-    }
+    pair-last _ (i1 .if1 .left) (omega (arith, i2 .if2 .left)) (omega (arith, i3 .if3 .left)) (i4 .if4 .left)
 
 pub is-pair-spec : {M : Type 1} → statement M
 is-pair-spec =

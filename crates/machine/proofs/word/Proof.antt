@@ -1,4 +1,5 @@
 -- `machine::word` meets its contract: the word of a pair directly, and of any other codes on a stack. Assumes nothing.
+use mathlib.Core.Path.{sym, _∙_}
 use Prim.Native.Nat.{_<_}
 use native.Mathlib.Omega.{arith}
 use borrow.Author.Needs.{needs}
@@ -6,6 +7,7 @@ use denote.Ref.{now}
 use lib.ListN.{length}
 use Rattle.codes.specs.Tree.{four}
 use Rattle.machine.specs.Steps.{Pair}
+use Rattle.machine.proofs.Arms.{pair-of}
 use Rattle.machine.proofs.Words.{word-is, pair-word}
 use Rattle.machine.proofs.word.Statement.{statement}
 use Rattle.machine.proofs.word.Tie as tie
@@ -18,7 +20,7 @@ is-pair-requires c κs = search needs
 
 -- past the test the codes are a pair
 pair-here : (c : tie.Then1) → Pair (c .before .before .before .before .before .before .before .before .args .codes .now)
-pair-here c = c .before .is-pair .ensures (c .if1 .taken)
+pair-here c = pair-of _ (sym (c .before .is-pair .ensures) ∙ c .if1 .taken)
 
 shared-slice-read-leaf : tie.Need-shared-slice-read-leaf
 shared-slice-read-leaf c =

@@ -1,0 +1,36 @@
+-- Many members of two stores joined by one code, in one call: as a fill of one store, over the words that the code makes of the words of both.
+use mathlib.Core.Bool.{cond}
+use mathlib.Core.List.{List}
+use Prim.Native.Nat.{ℕ}
+use lib.Bits.{bitAnd, bitOr}
+use lib.Dec.{eqb}
+use lib.ListN.{length, getD}
+use Rattle.util.specs.Outcome.{Outcome}
+use Rattle.layers.specs.Calls.{layerPart}
+use Rattle.iter.specs.declared.Cursor.{Cursor}
+use Rattle.iter.specs.Calls.{fits}
+use Rattle.iter.specs.Steps.{parts}
+use Rattle.fill.specs.declared.Stop.the-variants.{Refused}
+use Rattle.fill.specs.Fill.{Filled, stopped, fillFrom, filled}
+use Rattle.codes.specs.Tree.{xorIn}
+
+-- "16 and, 17 or, 18 xor": what a code makes of two words of layer k; every other code is taken for xor
+unfoldable pub joined : ℕ → ℕ → ℕ → ℕ → ℕ
+joined code k x y = cond (eqb code 16) (bitAnd x y) (cond (eqb code 17) (bitOr x y) (xorIn k x y))
+
+-- of layers that are lent as lists, the lowest first
+abbrev pub joinedParts : ℕ → List (List ℕ) → List (List ℕ) → ℕ → ℕ → ℕ
+joinedParts code ls ms k i = joined code k (parts ls k i) (parts ms k i)
+
+-- of two stores; a slice that is no store has no layers, and its words are 0
+abbrev pub pairWords : ℕ → List ℕ → List ℕ → ℕ → ℕ → ℕ
+pairWords code a b k i = joined code k (getD (layerPart a k) i 0) (getD (layerPart b k) i 0)
+
+-- refusal 7 alone
+unfoldable pub pairIn : ℕ → List ℕ → List ℕ → Cursor → ℕ → ℕ → Filled
+pairIn code a b c n m =
+    let f = fillFrom (pairWords code a b) 3 m n c in
+    cond (fits 3 c) f (stopped (Refused 7) 0 c)
+
+abbrev pub pairOf : ℕ → List ℕ → List ℕ → Cursor → ℕ → List ℕ → Outcome (List ℕ)
+pairOf code a b c n out = filled (pairIn code a b c n (length out)) out

@@ -1,0 +1,160 @@
+// Many members of two stores joined by one code: the commonest formula, walked over the layers of the two stores with no look at its codes.
+ghost use mathlib.Core.Bool.{true};
+ghost use mathlib.Core.List.{[], _∷_};
+ghost use mathlib.Core.Path.{_≡_};
+ghost use Prim.Native.Nat.{ℕ, _+_, _-_, _<_};
+ghost use lib.ListN.{length, getD};
+ghost use Rattle.util.specs.Outcome.{Settled};
+ghost use Rattle.iter.specs.Calls.{Fine};
+ghost use Rattle.iter.specs.Steps.{isReading, Lowers, Sinks};
+ghost use Rattle.iter.specs.Walk.{lowLayer, kind};
+ghost use Rattle.fill.specs.Fill.{fillFrom, batchPaper, filled};
+ghost use Rattle.pair_fill.specs.Pair.{joined, joinedParts, pairOf};
+use fill::Batch;
+use fill::Stop;
+use iter::Cursor;
+use iter::Sunk;
+
+// What a code makes of two words of layer k.
+fn joined(code: u8, k: usize, x: u64, y: u64) -> u64
+    ensures { λ r. ⌜ r ≡ joined code k x y ⌝ }
+{
+    if code == 16 {
+        return x & y;
+    }
+    if k != 0 {
+        return x | y;
+    }
+    if code != 17 {
+        return x ^ y;
+    }
+    x | y
+}
+
+// The words below the lowest bit of the layer above layer j are read and joined.
+fn read(c: Cursor, code: u8, a: &[u64], b: &[u64], j: usize) -> Cursor
+    requires { ⌜ (j < 3) × (0 < getD (c .masks) (j + 1) 0) ⌝ }
+    ensures { λ r. ⌜ Lowers (λ (k i : ℕ). joined code k (getD (now (a .entry)) i 0) (getD (now (b .entry)) i 0)) j c r ⌝ }
+{
+    let q = c.place(j + 1);
+    let w = joined(code, j, store::get(a, q), store::get(b, q));
+    c.handle_level(j, w)
+}
+
+// One word is read. Each layer has a way of its own, so that the masks stay in registers.
+fn down(
+    c: Cursor,
+    code: u8,
+    a2: &[u64],
+    a1: &[u64],
+    a0: &[u64],
+    b2: &[u64],
+    b1: &[u64],
+    b0: &[u64],
+) -> Cursor
+    requires { ⌜ isReading (kind 3 c) ≡ true ⌝ }
+    ensures { λ r. ⌜ Lowers (joinedParts code (now (a0 .entry) ∷ now (a1 .entry) ∷ now (a2 .entry) ∷ []) (now (b0 .entry) ∷ now (b1 .entry) ∷ now (b2 .entry) ∷ [])) (lowLayer 3 c - 1) c r ⌝ }
+{
+    let masks = c.masks;
+    if masks[1] != 0 {
+        return read(c, code, a0, b0, 0);
+    }
+    if masks[2] != 0 {
+        return read(c, code, a1, b1, 1);
+    }
+    read(c, code, a2, b2, 2)
+}
+
+// After so many reads, words are read until none is wanted or the budget is spent.
+fn sink(
+    from: Cursor,
+    code: u8,
+    a2: &[u64],
+    a1: &[u64],
+    a0: &[u64],
+    b2: &[u64],
+    b1: &[u64],
+    b0: &[u64],
+    spent: u64,
+    budget: u64,
+) -> Sunk
+    ensures { λ r. ⌜ Sinks (joinedParts code (now (a0 .entry) ∷ now (a1 .entry) ∷ now (a2 .entry) ∷ []) (now (b0 .entry) ∷ now (b1 .entry) ∷ now (b2 .entry) ∷ [])) budget spent from r ⌝ }
+{
+    let mut c = from;
+    let mut reads = spent;
+    while c.wants() {
+        if budget <= reads {
+            break;
+        }
+        c = down(c, code, a2, a1, a0, b2, b1, b0);
+        reads += 1;
+    }
+    Sunk { cursor: c, reads }
+}
+
+// A batch that leaves a cursor.
+fn made(c: Cursor, reads: u64, count: usize, stop: Stop) -> Batch
+    ensures { λ r. ⌜ r ≡ record { cursor = c; reads = reads; count = count; stop = stop } ⌝ }
+{
+    Batch {
+        cursor: c,
+        reads,
+        count,
+        stop,
+    }
+}
+
+// Fill over three layers of each store, where nothing is refused.
+fn fill_in(
+    from: Cursor,
+    code: u8,
+    a2: &[u64],
+    a1: &[u64],
+    a0: &[u64],
+    b2: &[u64],
+    b1: &[u64],
+    b0: &[u64],
+    budget: u64,
+    out: &mut [u32],
+) -> Batch
+    requires { ⌜ Fine 3 (from .prefix) ⌝ }
+    ensures { λ r. ⌜ Settled batchPaper (filled (fillFrom (joinedParts code (now (a0 .entry) ∷ now (a1 .entry) ∷ now (a2 .entry) ∷ []) (now (b0 .entry) ∷ now (b1 .entry) ∷ now (b2 .entry) ∷ [])) 3 (length (now (out .entry))) budget from) (now (out .entry))) r (now (out .exit)) ⌝ }
+{
+    let mut c = from;
+    let mut spent = 0u64;
+    let mut count = 0usize;
+    while count < out.len() {
+        let d = sink(c, code, a2, a1, a0, b2, b1, b0, spent, budget);
+        c = d.cursor;
+        spent = d.reads;
+        if c.masks[0] == 0 {
+            return fill::rest(c, spent, count);
+        }
+        out[count] = c.place(0) as u32;
+        c = c.hand();
+        count += 1;
+    }
+    made(c, spent, count, Stop::Full)
+}
+
+// As many members of two joined stores as `out` holds or the budget allows. A slice that is no store has no members.
+pub fn fill(c: Cursor, code: u8, a: &[u64], b: &[u64], budget: u64, out: &mut [u32]) -> Batch
+    ensures { λ r. ⌜ Settled batchPaper (pairOf code (now (a .entry)) (now (b .entry)) c budget (now (out .entry))) r (now (out .exit)) ⌝ }
+{
+    let no = c.refusal(1);
+    if no != 0 {
+        return made(c, 0, 0, Stop::Refused(no));
+    }
+    fill_in(
+        c,
+        code,
+        layers::layer2_as_slice(a),
+        layers::layer1_as_slice(a),
+        layers::layer0_as_slice(a),
+        layers::layer2_as_slice(b),
+        layers::layer1_as_slice(b),
+        layers::layer0_as_slice(b),
+        budget,
+        out,
+    )
+}
