@@ -2,7 +2,7 @@
 use mathlib.Core.Path.{ap₂, _∙_}
 use Prim.Native.Nat.{ℕ}
 use lib.ListN.{getD}
-use Rattle.iter.proofs.Cursors.{lowers}
+use Rattle.iter.proofs.Cursors.{lowers-by}
 use Rattle.pair_fill.specs.Pair.{joined}
 use borrow.Author.Needs.{needs}
 use Rattle.pair_fill.proofs.read.Statement.{statement}
@@ -34,7 +34,7 @@ returns c =
     let p = x .before in
     let s = p .before .before .before in
     let a = s .args in
-    lowers (λ (k i : ℕ). joined (a .code) k (getD (a .a .now) i 0) (getD (a .b .now) i 0)) (s .pre .0) (s .pre .1) (p .place .ensures)
+    lowers-by (λ (k i : ℕ). joined (a .code) k (getD (a .a .now) i 0) (getD (a .b .now) i 0)) (s .pre .0) (s .pre .1) (p .place .ensures)
     (w .joined .ensures ∙ ap₂ (joined (a .code) (a .j)) (x .get .ensures) (y .get2 .ensures)) (c .handle-level .ensures)
 
 pub read-spec : {M : Type 1} → statement M
