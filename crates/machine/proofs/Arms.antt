@@ -10,15 +10,16 @@ use native.Mathlib.Omega.{arith}
 use borrow.Author.Tests.{lt-ltb, le-leb, eq-eqb, leb-true, ltb-true, eqb-true}
 use lib.Bits.{bitAnd, bitOr, bitXor}
 use lib.Dec.{leb, ltb, eqb}
-use lib.ListN.{length, getD, set, drop, drop-of-length-le}
-use lib.Seq.{drop-cons}
+use lib.ListN.{length, getD, set, drop, drop-of-length-le, length-set}
+use lib.Seq.{drop-cons, getD-set-same, getD-set-other}
 use Rattle.util.specs.Word.{flip}
 use Rattle.util.proofs.Same.{both}
 use Rattle.codes.specs.Tree.{xorIn, notIn}
 use Rattle.codes.specs.Codes.{kindOf}
 use Rattle.codes.proofs.Turns.{kind-store, kind-unknown}
+use Rattle.machine.specs.declared.Turn.{Turn}
 use Rattle.machine.specs.Machine.{Stack, made, moves, stepped, evaluated, begun}
-use Rattle.machine.specs.Steps.{Going, isPair, Pair}
+use Rattle.machine.specs.Steps.{Joins, Turned, Going, isPair, Pair}
 
 -- ---- what a code makes
 
@@ -92,24 +93,90 @@ module _ (c : ℕ) where
       go out (yes e) = sym (rw e)
       go out (no n19) = sym (rw (kind-unknown c h (out 16 (omega arith) (omega arith)) (out 17 (omega arith) (omega arith)) (out 18 (omega arith) (omega arith)) n19 n20))
 
+-- ---- turns
+
+module _ (k cut : ℕ) (ws cs v : List ℕ) (d b j : ℕ) (h : j < length cs) where
+  -- one code
+  one-code : evaluated k cut ws (drop (suc j) cs) (stepped k cut ws (getD cs j 0) (record { words = v; place = d; last = b }))
+      ≡ evaluated k cut ws (drop j cs) (record { words = v; place = d; last = b })
+  unfolding evaluated
+  one-code = ap (λ (l : List ℕ). evaluated k cut ws l (record { words = v; place = d; last = b })) (sym (drop-cons cs j 0 h))
+
+  pub turned-one : (m r : ℕ) → m ≡ moves (kindOf (getD cs j 0))
+      → r ≡ made (kindOf (getD cs j 0)) (getD ws (getD cs j 0) 0) k cut (getD (set v d b) ((d + 7) % 8) 0) b
+      → Turned k cut ws cs j v d b (set v d b) (record { last = r; place = (d + m) % 8; next = j + 1 })
+  unfolding stepped
+  turned-one m r em er = record {
+    inside = omega arith;
+    long = length-set v d b;
+    on = omega arith;
+    within = omega arith;
+    same = ap₂ (λ (x : ℕ) (s : Stack). evaluated k cut ws (drop x cs) s) (add-one j)
+        (ap₂ (λ (x y : ℕ). record { words = set v d b; place = (d + x) % 8; last = y }) em er)
+        ∙ one-code;
+  }
+
+-- a store's code
+store-step : (k cut : ℕ) (ws v : List ℕ) (c d b : ℕ) → c < 4
+    → stepped k cut ws c (record { words = v; place = d; last = b }) ≡ record { words = set v d b; place = (d + 1) % 8; last = getD ws c 0 }
+unfolding stepped made moves
+store-step k cut ws v c d b h = rw (kind-store c h)
+
+-- a code that joins the values x and y, which was put last
+join-step : (k cut : ℕ) (ws v : List ℕ) (c d x y : ℕ) → 16 ≤ c → c < 19 → getD (set v d y) ((d + 7) % 8) 0 ≡ x
+    → stepped k cut ws c (record { words = v; place = d; last = y }) ≡ record { words = set v d y; place = (d + 7) % 8; last = made (kindOf c) (getD ws c 0) k cut x y }
+unfolding stepped
+join-step k cut ws v c d x y h l e =
+    ap₂ (λ (m z : ℕ). record { words = set v d y; place = (d + m) % 8; last = made (kindOf c) (getD ws c 0) k cut z y }) (sym (moves-back c h l .0)) e
+
+-- three codes that join two stores
+module _ (k cut : ℕ) (ws cs v : List ℕ) (d b j : ℕ) (p : Joins cs j) (long : length v ≡ 8) (h : d < 8) where
+  pub turned-three : (x y r : ℕ) → x ≡ getD ws (getD cs j 0) 0 → y ≡ getD ws (getD cs (j + 1) 0) 0
+      → r ≡ made (kindOf (getD cs (j + 2) 0)) (getD ws (getD cs (j + 2) 0) 0) k cut x y
+      → Turned k cut ws cs j v d b (set (set (set v d b) ((d + 1) % 8) x) ((d + 2) % 8) y) (record { last = r; place = (d + 1) % 8; next = j + 3 })
+  turned-three x y r ex ey er =
+      let v₁ = set v d b in
+      let v₂ = set v₁ ((d + 1) % 8) x in
+      let v₃ = set v₂ ((d + 2) % 8) y in
+      let q : ((d + 1) % 8 + 1) % 8 ≡ (d + 2) % 8 = omega arith in
+      let z : ((d + 2) % 8 + 7) % 8 ≡ (d + 1) % 8 = omega arith in
+      let i : (d + 1) % 8 < length v₁ = omega (arith, length-set v d b) in
+      let under : getD v₃ (((d + 2) % 8 + 7) % 8) 0 ≡ x =
+      ap (λ (n : ℕ). getD v₃ n 0) z ∙ getD-set-other v₂ ((d + 2) % 8) ((d + 1) % 8) y 0 (λ (e : (d + 1) % 8 ≡ (d + 2) % 8). omega arith) ∙ getD-set-same v₁ ((d + 1) % 8) x 0 i in
+      let s₁ : stepped k cut ws (getD cs j 0) (record { words = v; place = d; last = b }) ≡ record { words = v₁; place = (d + 1) % 8; last = x } =
+      store-step k cut ws v (getD cs j 0) d b (p .first) ∙ ap (λ (n : ℕ). record { words = v₁; place = (d + 1) % 8; last = n }) (sym ex) in
+      let s₂ : stepped k cut ws (getD cs (j + 1) 0) (record { words = v₁; place = (d + 1) % 8; last = x }) ≡ record { words = v₂; place = (d + 2) % 8; last = y } =
+      store-step k cut ws v₁ (getD cs (j + 1) 0) ((d + 1) % 8) x (p .second) ∙ ap₂ (λ (m n : ℕ). record { words = v₂; place = m; last = n }) q (sym ey) in
+      let s₃ : stepped k cut ws (getD cs (j + 2) 0) (record { words = v₂; place = (d + 2) % 8; last = y }) ≡ record { words = v₃; place = (d + 1) % 8; last = r } =
+      join-step k cut ws v₂ (getD cs (j + 2) 0) ((d + 2) % 8) x y (p .joins) (p .known) under ∙ ap₂ (λ (m n : ℕ). record { words = v₃; place = m; last = n }) z (sym er) in
+      let e₁ : suc j ≡ j + 1 = omega arith in
+      let e₂ : suc (j + 1) ≡ j + 2 = omega arith in
+      let e₃ : suc (j + 2) ≡ j + 3 = omega arith in
+      record {
+        inside = omega arith;
+        long = length-set v₂ ((d + 2) % 8) y ∙ length-set v₁ ((d + 1) % 8) x ∙ length-set v d b;
+        on = omega arith;
+        within = omega (arith, p .there);
+        same = sym (ap₂ (λ (n : ℕ) (s : Stack). evaluated k cut ws (drop n cs) s) e₃ s₃)
+            ∙ one-code k cut ws cs v₂ ((d + 2) % 8) y (j + 2) (p .there)
+            ∙ sym (ap₂ (λ (n : ℕ) (s : Stack). evaluated k cut ws (drop n cs) s) e₂ s₂)
+            ∙ one-code k cut ws cs v₁ ((d + 1) % 8) x (j + 1) (omega (arith, p .there))
+            ∙ sym (ap₂ (λ (n : ℕ) (s : Stack). evaluated k cut ws (drop n cs) s) e₁ s₁)
+            ∙ one-code k cut ws cs v d b j (omega (arith, p .there));
+      }
+
 -- ---- the loop
 
 pub going-start : (k cut : ℕ) (ws cs v : List ℕ) → v ≡ begun .words → Going k cut ws cs v 0 0 0
-going-start k cut ws cs v e = record { inside = omega arith; same = ap (λ (x : List ℕ). evaluated k cut ws cs (record { words = x; place = 0; last = 0 })) e }
+going-start k cut ws cs v e = record {
+  inside = omega arith;
+  long = ap length e;
+  same = ap (λ (x : List ℕ). evaluated k cut ws cs (record { words = x; place = 0; last = 0 })) e;
+}
 
 module _ {k cut : ℕ} {ws cs v : List ℕ} {d b j : ℕ} (g : Going k cut ws cs v d b j) where
-  pub goes-on : (m r : ℕ) → j < length cs → m ≡ moves (kindOf (getD cs j 0))
-      → r ≡ made (kindOf (getD cs j 0)) (getD ws (getD cs j 0) 0) k cut (getD (set v d b) ((d + 7) % 8) 0) b
-      → Going k cut ws cs (set v d b) ((d + m) % 8) r (j + 1)
-  unfolding evaluated stepped
-  goes-on m r h em er = record {
-    inside = omega arith;
-    same =
-        ap₂ (λ (x : ℕ) (s : Stack). evaluated k cut ws (drop x cs) s) (add-one j)
-        (ap₂ (λ (x y : ℕ). record { words = set v d b; place = (d + x) % 8; last = y }) em er)
-        ∙ ap (λ (l : List ℕ). evaluated k cut ws l (record { words = v; place = d; last = b })) (sym (drop-cons cs j 0 h))
-        ∙ g .same;
-  }
+  pub goes-on : {u : List ℕ} {t : Turn} → Turned k cut ws cs j v d b u t → Going k cut ws cs u (t .place) (t .last) (t .next)
+  goes-on w = record { inside = w .inside; long = w .long ∙ g .long; same = w .same ∙ g .same }
 
   pub all-done : length cs ≤ j → b ≡ evaluated k cut ws cs begun
   unfolding evaluated
@@ -155,24 +222,3 @@ three (a ∷ []) h = absurd (omega arith)
 three (a ∷ b ∷ []) h = absurd (omega arith)
 three (a ∷ b ∷ c ∷ []) h = refl
 three (a ∷ b ∷ c ∷ d ∷ cs) h = absurd (omega arith)
-
-pair-is : (k cut : ℕ) (ws cs : List ℕ) → Pair cs
-    → evaluated k cut ws cs begun ≡ made (kindOf (getD cs 2 0)) (getD ws (getD cs 2 0) 0) k cut (getD ws (getD cs 0 0) 0) (getD ws (getD cs 1 0) 0)
-unfolding evaluated stepped made moves
-pair-is k cut ws cs p =
-    ap (λ (x : List ℕ). evaluated k cut ws x begun) (three cs (p .three)) ∙ rw (kind-store (getD cs 0 0) (p .first), kind-store (getD cs 1 0) (p .second))
-
--- what joins two values asks neither a store's word nor which bits exist
-joined-alike : (c w v k cut a b : ℕ) → 16 ≤ c → c < 19 → made (kindOf c) w k cut a b ≡ made (kindOf c) v k 0 a b
-unfolding made kindOf
-joined-alike c w v k cut a b h l = go (ℕ-discrete c 16) (ℕ-discrete c 17)
-  where
-    go : Dec (c ≡ 16) → Dec (c ≡ 17) → made (kindOf c) w k cut a b ≡ made (kindOf c) v k 0 a b
-    go (yes e) d = rw e
-    go (no x) (yes e) = rw e
-    go (no x) (no y) = let e : c ≡ 18 = omega arith in rw e
-
-pub pair-made : (k cut : ℕ) (ws cs : List ℕ) → Pair cs → (v : ℕ)
-    → evaluated k cut ws cs begun ≡ made (kindOf (getD cs 2 0)) v k 0 (getD ws (getD cs 0 0) 0) (getD ws (getD cs 1 0) 0)
-pair-made k cut ws cs p v =
-    pair-is k cut ws cs p ∙ joined-alike (getD cs 2 0) (getD ws (getD cs 2 0) 0) v k cut (getD ws (getD cs 0 0) 0) (getD ws (getD cs 1 0) 0) (p .joins) (p .known)

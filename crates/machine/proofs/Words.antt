@@ -17,7 +17,6 @@ use Rattle.codes.specs.Codes.{kindOf, treeOf}
 use Rattle.codes.proofs.Accepted.{Accepted, formula-one}
 use Rattle.machine.specs.Machine.{wordsIn, placesIn, placeOf, made, evaluated, begun, machineWord}
 use Rattle.machine.specs.Steps.{Pair}
-use Rattle.machine.proofs.Arms.{pair-made}
 use Rattle.machine.proofs.Held.{leaves-value}
 
 module _ (a b c d cs : List ℕ) (N layer i : ℕ) where
@@ -27,27 +26,11 @@ module _ (a b c d cs : List ℕ) (N layer i : ℕ) where
   unfolding machineWord
   word-is at p cut e0 e1 e2 e3 r = r ∙ rw (e0, e1, e2, e3, cut, p, at)
 
--- the word of the slice that a code names
-pub leaf-at : (a b c d : List ℕ) (at n : ℕ) {code r : ℕ} → code ≡ n → r ≡ getD (nth (four a b c d) n) at 0 → r ≡ getD (nth (four a b c d) code) at 0
-leaf-at a b c d at n e r = r ∙ ap (λ (x : ℕ). getD (nth (four a b c d) x) at 0) (sym e)
-
 -- a word of each of a list of slices, and of one by its number
 each : (f : List ℕ → ℕ) (ss : List (List ℕ)) (c : ℕ) → f [] ≡ 0 → getD (map f ss) c 0 ≡ f (nth ss c)
 each f [] c z = sym z
 each f (s ∷ ss) zero z = refl
 each f (s ∷ ss) (suc c) z = each f ss c z
-
--- two stores and what joins them
-pub pair-word : (ss : List (List ℕ)) (cs : List ℕ) (N layer i v : ℕ) → Pair cs → {at x y r : ℕ} → at ≡ placeOf N (layer % 4) i
-    → x ≡ getD (nth ss (getD cs 0 0)) at 0 → y ≡ getD (nth ss (getD cs 1 0)) at 0 → r ≡ made (kindOf (getD cs 2 0)) v (layer % 4) 0 x y
-    → r ≡ machineWord N ss cs layer i
-unfolding machineWord
-pair-word ss cs N layer i v p {at} at-is x y r =
-    let k = layer % 4 in
-    let f : List ℕ → ℕ = λ s. getD s (placeOf N k i) 0 in
-    let leaf : (c : ℕ) → getD (nth ss c) at 0 ≡ getD (map f ss) c 0 = λ c. ap (λ (z : ℕ). getD (nth ss c) z 0) at-is ∙ sym (each f ss c refl) in
-    r ∙ ap₂ (made (kindOf (getD cs 2 0)) v k 0) (x ∙ leaf (getD cs 0 0)) (y ∙ leaf (getD cs 1 0))
-    ∙ sym (pair-made k (existing (placesIn N k) i) (map f ss) cs p v)
 
 -- ---- the words
 

@@ -1,11 +1,12 @@
 // The layer word of a formula, its codes one after another on a stack: the Rust's `BitSetAnd`, `BitSetOr`, `BitSetXor`, `BitSetNot` and
 // `BitSetAll` of ops.rs.
+ghost use mathlib.Core.Bool.{true};
 ghost use mathlib.Core.Path.{_≡_};
 ghost use Prim.Native.Nat.{suc, _≤_, _<_};
-ghost use lib.ListN.{getD};
+ghost use lib.ListN.{length, getD};
 ghost use Rattle.codes.specs.Tree.{existing, four, nth};
 ghost use Rattle.codes.specs.Codes.{kindOf};
-ghost use Rattle.machine.specs.Steps.{isPair};
+ghost use Rattle.machine.specs.Steps.{Joins, Turned, isPair};
 ghost use Rattle.machine.specs.Machine.{wordsIn, placesIn, placeOf, made, moves, evaluated, begun, machineWord};
 
 // The words of layer k.
@@ -90,6 +91,105 @@ fn moves(code: u8) -> usize
     }
 }
 
+// The values that wait after a turn: the last, and where it will stand; and the code that comes next.
+struct Turn {
+    last: u64,
+    place: usize,
+    next: usize,
+}
+
+// One code: the last value goes to its place, and the code's is the last.
+fn one(
+    codes: &[u8],
+    j: usize,
+    k: usize,
+    cut: u64,
+    words: &[u64; 4],
+    stack: &mut [u64],
+    d: usize,
+    last: u64,
+) -> Turn
+    requires { ⌜ (j < length (now codes)) × (length (now stack) ≡ 8) × (d < 8) ⌝ }
+    ensures { λ r. ⌜ Turned k cut (now (words .entry)) (now (codes .entry)) j (now (stack .entry)) d last (now (stack .exit)) r ⌝ }
+{
+    let code = codes[j];
+    stack[d] = last;
+    let a = stack[(d + 7) % 8];
+    Turn {
+        last: made(code, k, cut, words, a, last),
+        place: (d + moves(code)) % 8,
+        next: j + 1,
+    }
+}
+
+// Whether the codes from code j on begin with two stores and what joins them.
+fn joins(codes: &[u8], j: usize) -> bool
+    requires { ⌜ j < length (now codes) ⌝ }
+    ensures { λ r. ⌜ (r ≡ true → Joins (now (codes .entry)) j) ⌝ }
+{
+    if codes.len() - j < 3 {
+        return false;
+    }
+    if 3 < codes[j] {
+        return false;
+    }
+    if 3 < codes[j + 1] {
+        return false;
+    }
+    if codes[j + 2] < 16 {
+        return false;
+    }
+    codes[j + 2] < 19
+}
+
+// Three codes at a time, where two stores are joined: no value waits for the stack, which is left as the codes leave it one by one.
+fn three(
+    codes: &[u8],
+    j: usize,
+    k: usize,
+    cut: u64,
+    words: &[u64; 4],
+    stack: &mut [u64],
+    d: usize,
+    last: u64,
+) -> Turn
+    requires { ⌜ (Joins (now codes) j) × (length (now stack) ≡ 8) × (d < 8) ⌝ }
+    ensures { λ r. ⌜ Turned k cut (now (words .entry)) (now (codes .entry)) j (now (stack .entry)) d last (now (stack .exit)) r ⌝ }
+{
+    let x = codes[j] as usize;
+    let y = codes[j + 1] as usize;
+    let a = words[x];
+    let b = words[y];
+    stack[d] = last;
+    stack[(d + 1) % 8] = a;
+    stack[(d + 2) % 8] = b;
+    Turn {
+        last: made(codes[j + 2], k, cut, words, a, b),
+        place: (d + 1) % 8,
+        next: j + 3,
+    }
+}
+
+// The codes from code j on, one or three.
+fn next_turn(
+    codes: &[u8],
+    j: usize,
+    k: usize,
+    cut: u64,
+    words: &[u64; 4],
+    stack: &mut [u64],
+    d: usize,
+    last: u64,
+) -> Turn
+    requires { ⌜ (j < length (now codes)) × (length (now stack) ≡ 8) × (d < 8) ⌝ }
+    ensures { λ r. ⌜ Turned k cut (now (words .entry)) (now (codes .entry)) j (now (stack .entry)) d last (now (stack .exit)) r ⌝ }
+{
+    if joins(codes, j) {
+        return three(codes, j, k, cut, words, stack, d, last);
+    }
+    one(codes, j, k, cut, words, stack, d, last)
+}
+
 // The codes one after another: the last value stands in `last`, those before it in the stack.
 fn evaluate(codes: &[u8], k: usize, cut: u64, words: &[u64; 4]) -> u64
     ensures { λ r. ⌜ r ≡ evaluated k cut (now (words .entry)) (now (codes .entry)) begun ⌝ }
@@ -99,12 +199,10 @@ fn evaluate(codes: &[u8], k: usize, cut: u64, words: &[u64; 4]) -> u64
     let mut last = 0u64;
     let mut j = 0usize;
     while j < codes.len() {
-        let code = codes[j];
-        stack[d] = last;
-        let e = (d + 7) % 8;
-        last = made(code, k, cut, words, stack[e], last);
-        d = (d + moves(code)) % 8;
-        j += 1;
+        let t = next_turn(codes, j, k, cut, words, &mut stack, d, last);
+        last = t.last;
+        d = t.place;
+        j = t.next;
     }
     last
 }
@@ -128,19 +226,6 @@ pub fn is_pair(codes: &[u8]) -> bool
     codes[2] < 19
 }
 
-// The word at a place of the slice that a code names.
-fn leaf(code: u8, at: usize, s0: &[u64], s1: &[u64], s2: &[u64], s3: &[u64]) -> u64
-    requires { ⌜ code < 4 ⌝ }
-    ensures { λ r. ⌜ r ≡ getD (nth (four (now (s0 .entry)) (now (s1 .entry)) (now (s2 .entry)) (now (s3 .entry))) code) at 0 ⌝ }
-{
-    match code {
-        0 => store::get(s0, at),
-        1 => store::get(s1, at),
-        2 => store::get(s2, at),
-        _ => store::get(s3, at),
-    }
-}
-
 // Word i of a layer of a formula over four slices, those that are stores being of capacity n; the layer's number counts modulo 4.
 pub fn word(
     codes: &[u8],
@@ -156,12 +241,6 @@ pub fn word(
 {
     let k = layer % 4;
     let at = place(n, k, i);
-    if is_pair(codes) {
-        let a = leaf(codes[0], at, s0, s1, s2, s3);
-        let b = leaf(codes[1], at, s0, s1, s2, s3);
-        let none = [0u64; 4];
-        return made(codes[2], k, 0, &none, a, b);
-    }
     let cut = existing(places(n, k), i);
     let words = [
         store::get(s0, at),

@@ -1,13 +1,13 @@
--- `machine::evaluate` meets its contract: each turn is one code of the definition. Assumes nothing.
-use mathlib.Core.Path.{refl}
+-- `machine::evaluate` meets its contract: each turn is one code of the definition, or three. Assumes nothing.
+use mathlib.Core.Path.{refl, sym}
 use Prim.Native.Nat.{_-_}
 use native.Mathlib.Omega.{arith}
-use borrow.Author.Needs.{needs}
 use lib.ListN.{length}
-use Rattle.machine.proofs.Arms.{going-start, goes-on, all-done}
 use Rattle.machine.specs.Steps.{Going}
+use Rattle.machine.proofs.Arms.{going-start, goes-on, all-done}
 use Rattle.machine.proofs.evaluate.Statement.{statement}
 use Rattle.machine.proofs.evaluate.Tie as tie
+use Rattle.machine.proofs.next_turn.Reads as next-turn-reads
 
 abbrev Inv-loop : tie.InvT-loop
 Inv-loop codes k cut words stack₀ d₀ last₀ j₀ stack d last j = Going k cut words codes stack d last j
@@ -18,44 +18,17 @@ abbrev μ-loop : tie.MeasureT-loop
 loop-holds : tie.Need-loop-holds Inv-loop μ-loop
 loop-holds c = going-start _ _ _ _ _ refl
 
-shared-slice-read-code : tie.Need-shared-slice-read-code Inv-loop μ-loop
-shared-slice-read-code c = search needs
+slice-aggregate-next-turn : tie.Need-slice-aggregate-next-turn Inv-loop μ-loop
+slice-aggregate-next-turn c = sym (c .before .before .loop .inv .long)
 
-mul-stack : tie.Need-mul-stack Inv-loop μ-loop
-mul-stack c = omega (arith, c .before .before .loop .inv .inside)
-
-array-write-stack : tie.Need-array-write-stack Inv-loop μ-loop
-array-write-stack c = c .before .before .loop .inv .inside
-
-add-e : tie.Need-add-e Inv-loop μ-loop
-add-e c = omega (arith, c .before .before .loop .inv .inside)
-
-mul-made : tie.Need-mul-made Inv-loop μ-loop
-mul-made c = search needs
-
-array-read-made : tie.Need-array-read-made Inv-loop μ-loop
-array-read-made c = search needs
-
-made-requires : tie.Need-made-requires Inv-loop μ-loop
-made-requires c κs = search needs
-
-moves-requires : tie.Need-moves-requires Inv-loop μ-loop
-moves-requires c κs = search needs
-
-add-d : tie.Need-add-d Inv-loop μ-loop
-add-d c = omega (arith, c .before .before .before .before .loop .inv .inside, c .moves .ensures .1)
-
-add-j : tie.Need-add-j Inv-loop μ-loop
-add-j c = search needs
+next-turn-requires : tie.Need-next-turn-requires Inv-loop μ-loop
+next-turn-requires c κs = let l = c .before in (l .loop-test .taken, l .before .loop .inv .long, l .before .loop .inv .inside)
 
 loop-less : tie.Need-loop-less Inv-loop μ-loop
-loop-less c = omega arith
+loop-less c = let t = c .before .next-turn .ensures in omega (arith, t .on, t .within)
 
 loop-again : tie.Need-loop-again Inv-loop μ-loop
-loop-again c =
-    let m = c .before in
-    let t = m .before .before in
-    goes-on (t .before .loop .inv) _ _ (t .loop-test .taken) (c .moves .ensures .0) (m .made .ensures)
+loop-again c = let n = c .before in goes-on (n .before .before .before .loop .inv) (n .next-turn .ensures)
 
 returns : tie.Need-returns Inv-loop μ-loop
 returns c = all-done (c .before .loop .inv) (c .loop-test .left)
@@ -67,16 +40,8 @@ evaluate-spec =
     Inv-loop
     μ-loop
     loop-holds
-    shared-slice-read-code
-    mul-stack
-    array-write-stack
-    add-e
-    mul-made
-    array-read-made
-    made-requires
-    moves-requires
-    add-d
-    add-j
+    slice-aggregate-next-turn
+    next-turn-requires
     loop-less
     loop-again
     returns)
