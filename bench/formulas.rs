@@ -18,14 +18,15 @@ pub fn formulas(table: &Table, r: &mut Random, n: usize, kind: &str) {
     let (sets, stores): (Vec<BitSet>, Vec<Store>) = all.iter().map(|ids| both(n, ids)).unzip();
     let times = (1 << 18) / all[0].len() + 1;
     let count = times * all[0].len();
+    let mut out = [0; 256];
     table.row(
         "fill 256, 0 1 and", n, kind, count,
         Box::new(|| timed(|| (0..times).map(|_| rust_and(black_box(&sets[0]), &sets[1])).sum())),
-        Box::new(|| timed(|| (0..times).map(|_| formula_sum(&[0, 1, 16], &stores)).sum())),
+        Box::new(|| timed(|| (0..times).map(|_| formula_sum(&[0, 1, 16], &stores, &mut out)).sum())),
     );
     table.row(
         "fill 256, 0 1 and 2 3 and or", n, kind, count,
         Box::new(|| timed(|| (0..times).map(|_| rust_seven(black_box(&sets))).sum())),
-        Box::new(|| timed(|| (0..times).map(|_| formula_sum(&[0, 1, 16, 2, 3, 16, 17], &stores)).sum())),
+        Box::new(|| timed(|| (0..times).map(|_| formula_sum(&[0, 1, 16, 2, 3, 16, 17], &stores, &mut out)).sum())),
     );
 }

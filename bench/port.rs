@@ -89,9 +89,9 @@ impl Store {
         }
     }
 
-    /// The sum of all ids, up to 256 members a call.
-    pub fn fill_sum(&self) -> u64 {
-        let (mut cursor, mut sum, mut out) = (self.start(), 0, [0; 256]);
+    /// The sum of all ids, up to 256 members a call, into the caller's places.
+    pub fn fill_sum(&self, out: &mut [u32; 256]) -> u64 {
+        let (mut cursor, mut sum) = (self.start(), 0);
         loop {
             let step = unsafe {
                 fen_fill(self.0.as_ptr(), self.0.len(), &mut cursor, u64::MAX, out.as_mut_ptr(), out.len())
@@ -132,9 +132,9 @@ impl Store {
     }
 }
 
-/// The sum of all ids of a formula over four stores, up to 256 members a call.
-pub fn formula_sum(codes: &[u8], s: &[Store]) -> u64 {
-    let (mut cursor, mut sum, mut out) = ([0; 10], 0, [0; 256]);
+/// The sum of all ids of a formula over four stores, up to 256 members a call, into the caller's places.
+pub fn formula_sum(codes: &[u8], s: &[Store], out: &mut [u32; 256]) -> u64 {
+    let (mut cursor, mut sum) = ([0; 10], 0);
     let (a, b, c, d) = (&s[0].0, &s[1].0, &s[2].0, &s[3].0);
     let start = unsafe {
         fen_formula_start(

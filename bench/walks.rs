@@ -30,6 +30,7 @@ pub fn walks(table: &Table, r: &mut Random, n: usize, kind: &str) {
     let all = members(r, n, kind);
     let (set, store) = both(n, &all);
     let times = (1 << 18) / all.len() + 1;
+    let mut out = [0; 256];
     table.row(
         "next", n, kind, times * all.len(),
         Box::new(|| timed(|| (0..times).map(|_| rust_next_sum(black_box(&set))).sum())),
@@ -38,6 +39,6 @@ pub fn walks(table: &Table, r: &mut Random, n: usize, kind: &str) {
     table.row(
         "fill 256", n, kind, times * all.len(),
         Box::new(|| timed(|| (0..times).map(|_| rust_loop_sum(black_box(&set))).sum())),
-        Box::new(|| timed(|| (0..times).map(|_| store.fill_sum()).sum())),
+        Box::new(|| timed(|| (0..times).map(|_| store.fill_sum(&mut out)).sum())),
     );
 }
