@@ -33,7 +33,7 @@ use Rattle.algebra.specs.Walks.{nextOver, fillOver, walkOver, fillsOver,
 use Rattle.algebra.proofs.Sets.{ids-members, members-are, members-rise}
 use Rattle.algebra.proofs.Shapes.{tree-and, tree-union}
 use Rattle.algebra.proofs.Trees.{tree-bounded, union-full}
-use Rattle.algebra.proofs.Walks.{both-reads}
+use Rattle.algebra.proofs.Fewer.{both-reads}
 
 module _ (a b c d cs : List ℕ) (ok : checkOf (four a b c d) cs ≡ 0) (z : Sounds (cap a) (four a b c d)) where
   abbrev ss : List (List ℕ)

@@ -3,5 +3,5 @@ pub mod Trees
 pub mod Sets
 pub mod Shapes
 pub mod Answers
-pub mod Walks
+pub mod Fewer
 pub mod Calls
