@@ -1,0 +1,76 @@
+-- DEMAND 3, over stores that our calls reached and any accepted formula over at most four of them.
+use mathlib.Core.Bool.{true}
+use mathlib.Core.List.{List, [], _∷_, _++_}
+use mathlib.Core.Path.{_≡_, sym, subst}
+use Prim.Native.Nat.{ℕ, _+_, _^_, _≤_, _<_}
+use native.Mathlib.Decide.{ℕ-discrete}
+use native.Mathlib.Omega.{arith}
+use lib.ListN.{length, getD, List·getD-eq-default}
+use Rattle.store.specs.Layout.{top, cap}
+use Rattle.store.specs.Word.{Words64}
+use Rattle.iter.specs.declared.Cursor.{Cursor}
+use Rattle.demand.specs.Fills.{Ask, Some as SomeAsks, AllStopped}
+use Rattle.demand.specs.Under.{allIds, allReads}
+use Rattle.demand.specs.Walks.{Some, AllKept, Spaced}
+use Rattle.codes.specs.Tree.{four, nth}
+use Rattle.formula.specs.Calls.{wordsOf}
+use Rattle.formula_iter.specs.Calls.{startIn}
+use Rattle.algebra.specs.Sides.{Sounds, UnionCodes}
+use Rattle.algebra.specs.Walks.{nextOver, fillOver, walkOver, fillsOver, readsOf, Walked}
+use Rattle.algebra.proofs.Answers.{sounds}
+use Rattle.algebra.proofs.Calls.{formula-kept, formula-fills-kept, formula-walked, formula-filled, formula-over, formula-fills-over, formula-spaced, and-reads-left, and-reads-right}
+use Rattle.claims.specs.Lent.{Lent}
+use Rattle.claims.proofs.Histories.{reached-fine}
+
+module _ (a b c d : List ℕ) where
+  abbrev ss : List (List ℕ)
+  ss = four a b c d
+
+  words-lent : {cs : List ℕ} → Lent ss cs → (x : ℕ) → Words64 (nth ss x)
+  words-lent l x = go (ℕ-discrete (length (nth ss x)) 0)
+    where
+      go : Dec (length (nth ss x) ≡ 0) → Words64 (nth ss x)
+      go (yes e) = λ y. subst (λ (z : ℕ). z < 2 ^ 64) (sym (List·getD-eq-default {A = ℕ} (nth ss x) 0 {n = y} (omega arith))) (omega arith)
+      go (no n) = reached-fine (l .reached x n) .words
+
+  sounds-lent : {cs : List ℕ} → Lent ss cs → Sounds (cap a) ss
+  sounds-lent {cs} l = sounds a b c d cs (l .accepted) (words-lent l) (λ x n. reached-fine (l .reached x n) .sound)
+
+  module _ {cs : List ℕ} (l : Lent ss cs) where
+    -- "However it is cut by read budgets, a walk that ends has handed out exactly the formula's members, each once, ascending, and reported
+    -- the count of words that the definition says it reads."
+    pub walk-members : (k : Cursor) (bs : List ℕ) → walkOver ss cs k bs .over ≡ true → Walked ss cs k (walkOver ss cs k bs)
+    walk-members = formula-walked a b c d cs (l .accepted) (sounds-lent l)
+
+    pub fills-members : (k : Cursor) (q : List Ask) → fillsOver ss cs k q .over ≡ true → Walked ss cs k (fillsOver ss cs k q)
+    fills-members = formula-filled a b c d cs (l .accepted) (sounds-lent l)
+
+    -- it does end, and no call refuses or reads past its budget
+    pub walk-ends : (k : Cursor) (bs : List ℕ) → Some bs → allReads (wordsOf ss cs) (top (cap a)) + length (allIds (wordsOf ss cs) (top (cap a))) ≤ length bs
+        → walkOver ss cs k bs .over ≡ true
+    walk-ends = formula-over a b c d cs (l .accepted) (sounds-lent l)
+
+    pub fills-end : (k : Cursor) (q : List Ask) → SomeAsks q → allReads (wordsOf ss cs) (top (cap a)) + length (allIds (wordsOf ss cs) (top (cap a))) ≤ length q
+        → fillsOver ss cs k q .over ≡ true
+    fills-end = formula-fills-over a b c d cs (l .accepted) (sounds-lent l)
+
+    pub walk-keeps : (k : Cursor) (bs : List ℕ) → AllKept (nextOver ss cs) bs (startIn ss cs k .cursor)
+    walk-keeps = formula-kept a b c d cs (l .accepted) (sounds-lent l)
+
+    pub fills-keep : (k : Cursor) (q : List Ask) → AllStopped (fillOver ss cs) q (startIn ss cs k .cursor)
+    fills-keep = formula-fills-kept a b c d cs (l .accepted) (sounds-lent l)
+
+    -- "On one store or a union of stores, after the top word, at most three words are read before each next member and none before the end."
+    pub walk-gaps : UnionCodes cs → (k : Cursor) (bs : List ℕ) → Spaced (top (cap a)) (nextOver ss cs) bs (startIn ss cs k .cursor) 0
+    walk-gaps = formula-spaced a b c d cs (l .accepted) (sounds-lent l)
+
+  -- "An intersection reads no more than either side alone."
+  module _ (f g : List ℕ) (left : Lent ss f) (right : Lent ss g) (l : Lent ss (f ++ (g ++ 16 ∷ []))) (k m : Cursor) (bs qs : List ℕ) where
+    abbrev fg : List ℕ
+    fg = f ++ (g ++ 16 ∷ [])
+
+    pub fewer-than-left : walkOver ss fg k bs .over ≡ true → walkOver ss f m qs .over ≡ true → readsOf ss fg k (walkOver ss fg k bs) ≤ readsOf ss f m (walkOver ss f m qs)
+    fewer-than-left = and-reads-left a b c d f g (sounds-lent l) (left .accepted) (right .accepted) (l .accepted) k m bs qs
+
+    pub fewer-than-right : walkOver ss fg k bs .over ≡ true → walkOver ss g m qs .over ≡ true → readsOf ss fg k (walkOver ss fg k bs) ≤ readsOf ss g m (walkOver ss g m qs)
+    fewer-than-right = and-reads-right a b c d f g (sounds-lent l) (left .accepted) (right .accepted) (l .accepted) k m bs qs

@@ -1,0 +1,1 @@
+// No code: the theorems that span the crates stand in specs/ and proofs/.
