@@ -13,9 +13,9 @@ use Rattle.iter.specs.declared.Cursor.{Cursor}
 use Rattle.iter.specs.declared.Next.the-variants.{Paused}
 use Rattle.iter.specs.declared.Step.{Step}
 use Rattle.iter.specs.Calls.{Fine}
-use Rattle.iter.specs.Walk.{startAt, next, Run, runBy}
+use Rattle.iter.specs.Walk.{startAt, Run, runBy}
 use Rattle.iter.proofs.Cursors.{fit-of}
-use Rattle.demand.specs.Fills.{Ask, Some as SomeAsks, AllStopped, fillsBy, fillAt, Fills}
+use Rattle.demand.specs.Fills.{Ask, Some as SomeAsks, AllStopped, fillsBy, Fills}
 use Rattle.demand.specs.Under.{allIds, allReads}
 use Rattle.demand.specs.Walks.{Bounded, Some, AllKept, Spaced, Nexts}
 use Rattle.demand.proofs.Called.{calls-kept, calls-defined, calls-over, calls-spaced}

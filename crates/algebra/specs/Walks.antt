@@ -35,7 +35,8 @@ fillsOver ss cs c l = fillsBy (fillOver ss cs) (startIn ss cs c .cursor) l
 abbrev pub readsOf : List (List ℕ) → List ℕ → Cursor → Run → ℕ
 readsOf ss cs c w = startIn ss cs c .reads + w .total
 
--- What a walk did that ended: it "hands out exactly the members, each once, rising", and reports "the definition's count".
+-- "a walk that ends has handed out exactly the formula's members, each once, ascending, and reported the count of words that the
+-- definition says it reads"
 pub record Walked (ss : List (List ℕ)) (cs : List ℕ) (c : Cursor) (w : Run) : Type 0 where
   pub members-all : w .members ≡ membersOf (capOf ss) ss (treeOf cs)
   pub exact : (i : ℕ) → List·Memᴰ i (w .members) ↔ ((i < capOf ss) × Among ss (treeOf cs) i)

@@ -7,7 +7,7 @@ use borrow.Author.Tests.{lt-ltb, le-ltb, ne-eqb}
 use Rattle.members.specs.Calls.{containsOf}
 use Rattle.whole.specs.Calls.{isEmptyOf}
 use Rattle.same.specs.Calls.{equalOf}
-use Rattle.summary.specs.Calls.{isSoundOf}
+use Rattle.soundness.specs.Calls.{isSoundOf}
 use Rattle.free.specs.Calls.{firstFreeOf}
 use Rattle.superset.specs.Calls.{containsSetOf}
 use Rattle.desk.specs.Slots.{numberOf, partOf}

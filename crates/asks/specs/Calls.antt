@@ -8,7 +8,7 @@ use lib.Dec.{eqb}
 use Rattle.members.specs.Calls.{containsOf}
 use Rattle.whole.specs.Calls.{isEmptyOf}
 use Rattle.same.specs.Calls.{equalOf}
-use Rattle.summary.specs.Calls.{isSoundOf}
+use Rattle.soundness.specs.Calls.{isSoundOf}
 use Rattle.free.specs.Calls.{firstFreeOf}
 use Rattle.superset.specs.Calls.{containsSetOf}
 use Rattle.desk.specs.Slots.{numberOf, isId, isSlot, partOf}
@@ -34,7 +34,7 @@ sound = 495791205988
 abbrev pub free : ℕ
 free = 1718773093
 
--- "`isempty S`: `whole::is_empty`. `sound S`: `summary::is_sound`. `free S`: `free::first_free`"
+-- "`isempty S`: `whole::is_empty`. `sound S`: `soundness::is_sound`. `free S`: `free::first_free`"
 unfoldable pub ask1Of : List ℕ → ℕ → Said
 ask1Of s w =
     cond (eqb w isempty) (saidOf (isEmptyOf s .numbers))

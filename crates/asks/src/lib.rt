@@ -56,7 +56,7 @@ fn ask1(part: &[u64], word: u64) -> Said
 {
     match word {
         ISEMPTY => said::asked(whole::is_empty(part)),
-        SOUND => said::asked(summary::is_sound(part)),
+        SOUND => said::asked(soundness::is_sound(part)),
         FREE => said::found(free::first_free(part)),
         _ => said::unknown(),
     }

@@ -1,9 +1,9 @@
 -- The bit that splits a word: what its definition says, that there is one exactly if two bits are set, and how a search meets it.
 use mathlib.Core.Bool.{Bool, cond}
-use mathlib.Core.List.{List, [], _∷_}
+use mathlib.Core.List.{[], _∷_}
 use mathlib.Core.Logic.{_≢_}
 use mathlib.Core.Path.{_≡_, refl, sym, ap, _∙_}
-use Prim.Native.Nat.{ℕ, zero, suc, _+_, _-_, _*_, _/_, _%_, _^_, _≤_, _<_}
+use Prim.Native.Nat.{ℕ, zero, suc, _+_, _-_, _/_, _^_, _≤_, _<_}
 use native.Mathlib.Nat.{div-one}
 use native.Mathlib.Decide.{decLt, decLe, ℕ-discrete}
 use native.Mathlib.Omega.{arith}
@@ -12,7 +12,7 @@ use lib.Arith.{lt-one}
 use lib.Dec.{eqb}
 use lib.Pow.{shr-lt, shr-le}
 use lib.Count.{ones}
-use Rattle.util.specs.Word.{bit, count, places}
+use Rattle.util.specs.Word.{bit, count}
 use Rattle.util.specs.Outcome.{Settled}
 use Rattle.average.specs.Average.{paper, splits, averageOf}
 use Rattle.average.specs.Search.{above}

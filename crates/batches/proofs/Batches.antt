@@ -16,7 +16,8 @@ use Rattle.iter.specs.declared.Cursor.{Cursor}
 use Rattle.iter.specs.declared.Step.{Step}
 use Rattle.fill.specs.declared.Stop.{Stop}
 use Rattle.fill.specs.declared.Stop.the-variants.{Full, Paused, End}
-use Rattle.iter.specs.Calls.{Fine, startedOf}
+use Rattle.iter.specs.Calls.{Fine}
+use Rattle.starts.specs.Calls.{startedOf}
 use Rattle.fill.specs.Fill.{Filled, batchPaper, batch, fillFrom, fillIn, fillOf}
 use Rattle.iter.specs.Walk.{startAt}
 use Rattle.iter.proofs.Answers.{start-is}

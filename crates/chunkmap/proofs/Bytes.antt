@@ -3,12 +3,14 @@ use mathlib.Core.Bool.{Bool, true, false, cond}
 use mathlib.Core.List.{List, [], _∷_, _++_, append-assoc}
 use mathlib.Core.Logic.{_≢_}
 use mathlib.Core.Path.{_≡_, refl, sym, ap, ap₂, _∙_}
-use Prim.Native.Nat.{ℕ, suc, _+_, _-_, _*_, _/_, _≤_}
+use Prim.Native.Nat.{ℕ, zero, suc, _+_, _-_, _*_, _/_, _≤_}
 use native.Mathlib.Omega.{arith}
 use borrow.Author.Tests.{eq-eqb, ne-eqb}
+use lib.Count.{onesIn}
 use lib.Dec.{eqb}
 use lib.ListN.{length, take, drop, length-append}
 use lib.Seq.{sets, sets-eq, length-sets, length-take-le, drop-at}
+use Rattle.util.specs.Word.{count}
 use Rattle.store.specs.Build.{flag}
 use Rattle.store.proofs.Build.{flag-lt}
 use Rattle.le.specs.Bytes.{le}
@@ -75,12 +77,36 @@ unfolding mapOf
 length-map N ws =
     length-append (headOf N (countAll ws) (used ws)) (entries 0 ws) ∙ omega (arith, length-head N (countAll ws) (used ws), length-entries 0 ws)
 
--- the first of the words that are left
-pub entries-turn : (b : List ℕ) (o q w : ℕ) (ws : List ℕ) → sets b o (entries q (w ∷ ws)) ≡ sets (sets b o (entryOf q w)) (o + 12 * flag w) (entries (suc q) ws)
+-- of two lists
+pub entries-append : (q : ℕ) (xs ys : List ℕ) → entries q (xs ++ ys) ≡ entries q xs ++ entries (q + length xs) ys
 unfolding entries
-entries-turn b o q w ws =
-    sets-append b o (entryOf q w) (entries (suc q) ws)
-    ∙ ap (λ (k : ℕ). sets (sets b o (entryOf q w)) (o + k) (entries (suc q) ws)) (length-entry q w)
+entries-append q [] ys = let e : q ≡ q + 0 = omega arith in ap (λ (k : ℕ). entries k ys) e
+entries-append q (x ∷ xs) ys =
+    let e : suc q + length xs ≡ q + suc (length xs) = omega arith in
+    ap (λ (l : List ℕ). entryOf q x ++ l) (entries-append (suc q) xs ys ∙ ap (λ (k : ℕ). entries (suc q) xs ++ entries k ys) e)
+    ∙ sym (append-assoc (entryOf q x) (entries (suc q) xs) (entries (q + suc (length xs)) ys))
+
+-- ---- the counts
+
+pub used-append : (xs ys : List ℕ) → used (xs ++ ys) ≡ used xs + used ys
+unfolding used
+used-append [] ys = omega arith
+used-append (x ∷ xs) ys = omega (arith, used-append xs ys)
+
+pub count-append : (xs ys : List ℕ) → countAll (xs ++ ys) ≡ countAll xs + countAll ys
+unfolding countAll
+count-append [] ys = omega arith
+count-append (x ∷ xs) ys = omega (arith, count-append xs ys)
+
+ones-in-le : (d n : ℕ) → onesIn d n ≤ d
+unfolding onesIn
+ones-in-le zero n = omega arith
+ones-in-le (suc d) n = omega (arith, ones-in-le d (n / 2))
+
+pub count-le : (ws : List ℕ) → countAll ws ≤ 64 * length ws
+unfolding countAll count
+count-le [] = omega arith
+count-le (w ∷ ws) = omega (arith, count-le ws, ones-in-le 64 w)
 
 pub used-le : (ws : List ℕ) → used ws ≤ length ws
 unfolding used

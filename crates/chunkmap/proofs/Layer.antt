@@ -1,67 +1,64 @@
 -- Layer 0 as the part of the store that the writer lends on, and the words that the map tells of.
-use mathlib.Core.Bool.{true}
 use mathlib.Core.List.{List, [], _∷_}
 use mathlib.Core.Path.{_≡_, sym, ap, _∙_}
-use Prim.Native.Nat.{ℕ, _+_, _-_, _*_, _%_, _^_, _≤_}
+use Prim.Native.Nat.{ℕ, _+_, _-_, _*_, _/_, _%_, _^_, _≤_}
 use native.Mathlib.Omega.{arith}
-use borrow.Author.Tests.{le-leb}
 use lib.Dec.{leb}
-use lib.ListN.{length, getD, take, drop, length-drop, length-append}
-use lib.Seq.{take-all, getD-drop, length-take-le}
+use lib.ListN.{length, getD, take, drop, length-drop}
+use lib.Seq.{take-all, getD-drop}
 use Rattle.store.specs.Build.{layer0, room0}
-use Rattle.store.specs.Layout.{words, room, layerStart, endOf, StoreOf}
+use Rattle.store.specs.Layout.{words, room, layerStart, StoreOf}
 use Rattle.store.specs.Word.{Words64}
 use Rattle.store.proofs.Ends.{part}
+use Rattle.maproom.specs.Steps.{ended, usedAt}
+use Rattle.maproom.proofs.Used.{length-ended, used-none, used-cons}
 use Rattle.chunkmap.specs.Map.{keptFrom, wordsIn, used, mapLen}
-use Rattle.chunkmap.specs.Steps.{ended, Layer0, LayerOf}
-use Rattle.chunkmap.proofs.Bytes.{used-le}
+use Rattle.chunkmap.specs.Steps.{LayerOf, Fits}
 use Rattle.chunkmap.proofs.Words.{kept-ended}
 
--- ---- how many words are used at most
+-- ---- the words that are not zero
 
-few-in : (ws : List ℕ) (last : ℕ) → 1 ≤ length ws → used (ended ws last) ≤ length ws
-unfolding ended
-few-in ws last h =
-    omega (arith, used-le (ended ws last), length-append (take (length ws - 1) ws) (last ∷ []), length-take-le (length ws - 1) ws (omega arith))
+used-is : (ws : List ℕ) → used ws ≡ length (usedAt ws)
+unfolding used
+used-is [] = sym used-none
+used-is (w ∷ ws) = omega (arith, used-is ws, used-cons w ws)
 
-module _ {ws : List ℕ} (last : ℕ) (z : Layer0 ws) where
-  pub few-used : used (ended ws last) ≤ 262144
-  few-used = omega (arith, few-in ws last (z .some), z .most)
+-- room for them is room for the map
+pub room-same : (ws : List ℕ) (bytes : ℕ) → leb (16 + 12 * length (usedAt ws)) bytes ≡ leb (mapLen ws) bytes
+room-same ws bytes = ap (λ (k : ℕ). leb (16 + 12 * k) bytes) (sym (used-is ws))
 
-  -- there is room for the map where there is room for all words
-  pub room-for-all : (bytes : ℕ) → 16 + 12 * length ws ≤ bytes → true ≡ leb (mapLen (ended ws last)) bytes
-  room-for-all bytes h = sym (le-leb (mapLen (ended ws last)) bytes (omega (arith, few-in ws last (z .some))))
+pub fits : {N : ℕ} {ws : List ℕ} → LayerOf N ws → (last : ℕ) {b : List ℕ} → mapLen (ended ws last) ≤ length b → Fits ws last b
+fits {N} {ws} z last h =
+    record { some = omega (arith, z .long, z .some); room = record { bytes = h; few = omega (arith, length-ended ws last, z .long, z .most) } }
 
 -- ---- layer 0 of a store
 
-module _ {N : ℕ} {s : List ℕ} (z : StoreOf N s) {a : ℕ} (start : a ≡ endOf N 1) where
-  start-is : a ≡ layerStart N 0
-  start-is = start ∙ part z 0 (omega arith) .starts
+abbrev pub lent : ℕ → List ℕ → List ℕ
+lent N s = take (length s - (length s - words N)) (drop (length s - words N) s)
 
-  pub start-in : a ≤ length s
-  start-in = let p = part z 0 (omega arith) in omega (arith, start-is, p .size, p .inside)
-
-  pub lent-is : take (length s - a) (drop a s) ≡ layer0 N s
-  lent-is = take-all (length s - a) (drop a s) (omega (arith, length-drop a s)) ∙ ap (λ (x : ℕ). drop x s) start-is
-
-  long-layer : length (layer0 N s) ≡ words N
+module _ {N : ℕ} {s : List ℕ} (z : StoreOf N s) where
+  ends-so : length s ≡ layerStart N 0 + words N
   unfolding room
-  long-layer = let p = part z 0 (omega arith) in length-drop (layerStart N 0) s ∙ omega (arith, p .size, p .ends, z .long)
+  ends-so = let p = part z 0 (omega arith) in omega (arith, p .size, p .ends, z .long)
 
-  pub lent-layer : LayerOf N (take (length s - a) (drop a s))
-  lent-layer = record { some = z .some; most = z .most; long = ap length lent-is ∙ long-layer }
+  pub words-in : words N ≤ length s
+  words-in = omega (arith, ends-so)
 
-  pub lent-some : Layer0 (take (length s - a) (drop a s))
-  lent-some = record { some = omega (arith, lent-layer .long, z .some); most = omega (arith, lent-layer .long, z .most) }
+  pub lent-is : lent N s ≡ layer0 N s
+  lent-is =
+      let e : length s - words N ≡ layerStart N 0 = omega (arith, ends-so) in
+      take-all (length s - (length s - words N)) (drop (length s - words N) s) (omega (arith, length-drop (length s - words N) s)) ∙ ap (λ (x : ℕ). drop x s) e
 
-  module _ (small : Words64 s) {last : ℕ}
-      (last-is : last ≡ getD (take (length s - a) (drop a s)) (length (take (length s - a) (drop a s)) - 1) 0
-      % 2 ^ room0 N (length (take (length s - a) (drop a s)) - 1)) where
-    lent-small : Words64 (take (length s - a) (drop a s))
+  pub lent-layer : LayerOf N (lent N s)
+  lent-layer = record { some = z .some; most = z .most; long = ap length lent-is ∙ length-drop (layerStart N 0) s ∙ omega (arith, ends-so) }
+
+  module _ (small : Words64 s) {last : ℕ} (last-is : last ≡ getD (lent N s) ((N - 1) / 64) 0 % 2 ^ room0 N ((N - 1) / 64)) where
+    lent-small : Words64 (lent N s)
     lent-small x = rw (lent-is, getD-drop (layerStart N 0) s x 0) (small (layerStart N 0 + x))
 
-    pub words-are : ended (take (length s - a) (drop a s)) last ≡ wordsIn N s
+    pub words-are : ended (lent N s) last ≡ wordsIn N s
     words-are =
-        ap (ended (take (length s - a) (drop a s))) last-is
-        ∙ kept-ended N (take (length s - a) (drop a s)) lent-layer lent-small
+        let e : (N - 1) / 64 ≡ length (lent N s) - 1 = omega (arith, lent-layer .long, z .some) in
+        ap (ended (lent N s)) (last-is ∙ ap (λ (q : ℕ). getD (lent N s) q 0 % 2 ^ room0 N q) e)
+        ∙ kept-ended N (lent N s) lent-layer lent-small
         ∙ ap (keptFrom N 0) lent-is

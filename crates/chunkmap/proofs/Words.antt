@@ -4,14 +4,15 @@ use mathlib.Core.Path.{_≡_, refl, sym, ap, ap₂, _∙_, subst}
 use Prim.Native.Nat.{ℕ, zero, suc, _+_, _-_, _*_, _%_, _^_, _≤_, _<_}
 use native.Mathlib.Nat.{mod-lt, mod-eq-of-lt}
 use native.Mathlib.Omega.{arith}
-use lib.ListN.{length, getD, take, drop}
+use lib.ListN.{length, getD, take}
 use lib.Pow.{pow-pos}
-use lib.Seq.{drop-at, drop-append-le, drop-cons, getD-take, length-take-le}
-use Rattle.util.proofs.Bits.{shl-one}
 use Rattle.store.specs.Build.{room0, Kept}
 use Rattle.store.specs.Word.{Words64}
+use Rattle.maproom.specs.Steps.{ended}
+use Rattle.maproom.proofs.Cut.{cut-none}
+use Rattle.maproom.proofs.Used.{ended-is}
 use Rattle.chunkmap.specs.Map.{keptFrom}
-use Rattle.chunkmap.specs.Steps.{ended, LayerOf}
+use Rattle.chunkmap.specs.Steps.{LayerOf}
 
 -- ---- the words from number q on
 
@@ -46,13 +47,6 @@ kept-same N q (w ∷ ws) h =
 
 -- ---- only the last word changes
 
--- the last word as the code cuts it
-pub cut-low : (N q room w : ℕ) → room ≡ N - 64 * q → room < 64 → w % (1 * 2 ^ room % 2 ^ 64) ≡ w % 2 ^ room0 N q
-cut-low N q room w e h = let f : room ≡ room0 N q = omega arith in ap (λ (d : ℕ). w % d) (shl-one room h ∙ ap (λ (k : ℕ). 2 ^ k) f)
-
-pub cut-none : (N q room w : ℕ) → room ≡ N - 64 * q → 64 ≤ room → w < 2 ^ 64 → w ≡ w % 2 ^ room0 N q
-cut-none N q room w e h g = let f : 64 ≡ room0 N q = omega arith in sym (mod-eq-of-lt g) ∙ ap (λ (k : ℕ). w % 2 ^ k) f
-
 kept-end : (N q w : ℕ) (ws : List ℕ) → 64 * (q + length ws) ≤ N → Words64 (w ∷ ws)
     → keptFrom N q (w ∷ ws) ≡ take (length ws) (w ∷ ws) ++ getD (w ∷ ws) (length ws) 0 % 2 ^ room0 N (q + length ws) ∷ []
 unfolding keptFrom
@@ -60,36 +54,17 @@ kept-end N q w [] h small = let e : q ≡ q + 0 = omega arith in ap (λ (k : ℕ
 kept-end N q w (v ∷ ws) h small =
     let e : suc q + length ws ≡ q + length (v ∷ ws) = omega arith in
     let g : 64 * (suc q + length ws) ≤ N = omega arith in
-    ap₂ _∷_ (sym (cut-none N q (N - 64 * q) w refl (omega arith) (small 0)))
+    ap₂ _∷_ (sym (cut-none N q w (omega arith) (small 0)))
     (kept-end N (suc q) v ws g (λ x. small (suc x))
     ∙ ap (λ (k : ℕ). take (length ws) (v ∷ ws) ++ getD (v ∷ ws) (length ws) 0 % 2 ^ room0 N k ∷ []) e)
 
 pub kept-ended : (N : ℕ) (ws : List ℕ) → LayerOf N ws → Words64 ws → ended ws (getD ws (length ws - 1) 0 % 2 ^ room0 N (length ws - 1)) ≡ keptFrom N 0 ws
-unfolding ended
 kept-ended N [] z small = absurd (omega (arith, z .long, z .some))
 kept-ended N (w ∷ ws) z small =
     let e : length (w ∷ ws) - 1 ≡ length ws = omega arith in
     let g : 64 * (0 + length ws) ≤ N = omega (arith, z .long) in
     let f : length ws ≡ 0 + length ws = omega arith in
-    ap (λ (k : ℕ). take k (w ∷ ws) ++ getD (w ∷ ws) k 0 % 2 ^ room0 N k ∷ []) e
+    ended-is (w ∷ ws) (getD (w ∷ ws) (length (w ∷ ws) - 1) 0 % 2 ^ room0 N (length (w ∷ ws) - 1)) (omega arith)
+    ∙ ap (λ (k : ℕ). take k (w ∷ ws) ++ getD (w ∷ ws) k 0 % 2 ^ room0 N k ∷ []) e
     ∙ ap (λ (k : ℕ). take (length ws) (w ∷ ws) ++ getD (w ∷ ws) (length ws) 0 % 2 ^ room0 N k ∷ []) f
     ∙ sym (kept-end N 0 w ws g small)
-
--- ---- the words that a loop has before it
-
-module _ (ws : List ℕ) (last : ℕ) where
-  front-long : 1 ≤ length ws → length (take (length ws - 1) ws) ≡ length ws - 1
-  front-long h = length-take-le (length ws - 1) ws (omega arith)
-
-  pub ended-turn : (q : ℕ) → q < length ws - 1 → drop q (ended ws last) ≡ getD ws q 0 ∷ drop (suc q) (ended ws last)
-  unfolding ended
-  ended-turn q h =
-      let F : List ℕ = take (length ws - 1) ws in
-      let l = front-long (omega arith) in
-      drop-append-le q F (last ∷ []) (omega arith)
-      ∙ ap (λ (x : List ℕ). x ++ (last ∷ [])) (drop-cons F q 0 (omega arith) ∙ ap (λ (w : ℕ). w ∷ drop (suc q) F) (getD-take (length ws - 1) ws q 0 h))
-      ∙ ap (λ (x : List ℕ). getD ws q 0 ∷ x) (sym (drop-append-le (suc q) F (last ∷ []) (omega arith)))
-
-  pub ended-last : (q : ℕ) → 1 ≤ length ws → q ≡ length ws - 1 → drop q (ended ws last) ≡ last ∷ []
-  unfolding ended
-  ended-last q h e = drop-at (take (length ws - 1) ws) (last ∷ []) q (front-long h ∙ sym e)

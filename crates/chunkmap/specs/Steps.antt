@@ -1,32 +1,41 @@
 -- What the private steps ask and leave.
-use mathlib.Core.List.{List, [], _∷_, _++_}
+use mathlib.Core.List.{List}
 use mathlib.Core.Path.{_≡_}
-use Prim.Native.Nat.{ℕ, _+_, _-_, _*_, _≤_, _<_}
-use lib.ListN.{length, take}
-use Rattle.store.specs.Build.{flag}
+use Prim.Native.Nat.{ℕ, _+_, _*_, _≤_, _<_}
+use lib.ListN.{length, take, drop}
+use lib.Seq.{sets}
 use Rattle.store.specs.Layout.{maxCap, words}
-use Rattle.chunkmap.specs.Map.{used}
+use Rattle.maproom.specs.Steps.{ended}
+use Rattle.chunkmap.specs.Map.{countAll, used, entries}
 
--- the words ws with w for the last: only the last can have a bit at or past N
-unfoldable pub ended : List ℕ → ℕ → List ℕ
-ended ws w = take (length ws - 1) ws ++ w ∷ []
-
--- a layer 0: of one word or more, and of no more than the largest capacity has
-pub record Layer0 (ws : List ℕ) : Type 0 where
-  pub some : 1 ≤ length ws
-  pub most : 64 * length ws < maxCap + 64
-
--- the same of a capacity
+-- a layer 0 of a capacity
 pub record LayerOf (N : ℕ) (ws : List ℕ) : Type 0 where
   pub some : 1 ≤ N
   pub most : N ≤ maxCap
   pub long : length ws ≡ words N
 
--- there is room for the map of the words ws
-pub record Fits (ws b : List ℕ) : Type 0 where
-  pub room : 16 + 12 * used ws ≤ length b
+-- the n words from number q on
+abbrev pub part : ℕ → ℕ → List ℕ → List ℕ
+part q n ws = take n (drop q ws)
 
--- there is room at o for the entry of the word x, and m members are few enough to be counted on
-pub record Room (o x m : ℕ) (b : List ℕ) : Type 0 where
-  pub bytes : o + 12 * flag x ≤ length b
-  pub few : m ≤ maxCap
+-- there is room at o for the entries of the words xs, and m members are few enough to count theirs on
+pub record Room (o : ℕ) (xs : List ℕ) (m : ℕ) (b : List ℕ) : Type 0 where
+  pub bytes : o + 12 * used xs ≤ length b
+  pub few : m + 64 * length xs < maxCap + 64
+
+-- the same of the n words of ws from number q on, which stand there
+pub record Rooms (ws : List ℕ) (q n o m : ℕ) (b : List ℕ) : Type 0 where
+  pub inside : q + n ≤ length ws
+  pub room : Room o (part q n ws) m b
+
+-- the same of the map of the words ws with w for the last
+pub record Fits (ws : List ℕ) (w : ℕ) (b : List ℕ) : Type 0 where
+  pub some : 1 ≤ length ws
+  pub room : Room 16 (ended ws w) 0 b
+
+-- the entries of the words xs, numbered from q on, were put at o into b and their members counted on from m: where they end, how many
+-- members there are then, and the bytes
+pub record Entered (q : ℕ) (xs : List ℕ) (o m : ℕ) (b : List ℕ) (o′ m′ : ℕ) (b′ : List ℕ) : Type 0 where
+  pub place : o′ ≡ o + 12 * used xs
+  pub sum : m′ ≡ m + countAll xs
+  pub bytes : b′ ≡ sets b o (entries q xs)

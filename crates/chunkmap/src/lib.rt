@@ -1,62 +1,21 @@
 // The chunk map's writer: layer 0 as bytes. Document 01, "Chunk map".
+ghost use mathlib.Core.List.{[], _∷_};
 ghost use mathlib.Core.Path.{_≡_};
-ghost use Prim.Native.Nat.{_+_, _-_, _*_, _^_, _%_, _≤_};
-ghost use lib.Count.{ones};
-ghost use lib.Dec.{leb};
-ghost use lib.ListN.{length, getD};
+ghost use Prim.Native.Nat.{_+_, _*_, _≤_};
+ghost use lib.ListN.{length};
 ghost use lib.Seq.{sets};
 ghost use Rattle.util.specs.Outcome.{Settled};
-ghost use Rattle.store.specs.Build.{flag, room0};
+ghost use Rattle.maproom.specs.Steps.{ended};
 ghost use Rattle.le.specs.Bytes.{le};
-ghost use Rattle.chunkmap.specs.Map.{entryOf, headOf, mapOf, mapLen, used};
+ghost use Rattle.chunkmap.specs.Map.{headOf, mapOf, mapLen};
 ghost use Rattle.chunkmap.specs.Answer.{wrotePaper};
 ghost use Rattle.chunkmap.specs.Calls.{writeOf};
-ghost use Rattle.chunkmap.specs.Steps.{ended, Layer0, LayerOf, Fits, Room};
+ghost use Rattle.chunkmap.specs.Steps.{part, Room, Rooms, Fits, Entered};
 
 // The length of the map, or the refusal's number.
 pub enum Wrote {
     Length(usize),
     Refused(u32),
-}
-
-// The last word of a layer 0, its bits at or past n taken as absent.
-fn last_word(layer: &[u64], n: usize) -> u64
-    requires { ⌜ LayerOf n (now layer) ⌝ }
-    ensures { λ r. ⌜ r ≡ getD (now (layer .entry)) (length (now (layer .entry)) - 1) 0 % 2 ^ room0 n (length (now (layer .entry)) - 1) ⌝ }
-{
-    let last = layer.len() - 1;
-    let room = n - 64 * last;
-    let w = layer[last];
-    if room < 64 {
-        return w % (1u64 << room);
-    }
-    w
-}
-
-// How many words are not zero, `last` standing for the last.
-fn count_used(layer: &[u64], last: u64) -> usize
-    requires { ⌜ Layer0 (now layer) ⌝ }
-    ensures { λ r. ⌜ r ≡ used (ended (now (layer .entry)) last) ⌝ }
-{
-    let end = layer.len() - 1;
-    let mut n = (last != 0) as usize;
-    let mut q = 0usize;
-    while q < end {
-        n += (layer[q] != 0) as usize;
-        q += 1;
-    }
-    n
-}
-
-// Whether the map of these words has room in so many bytes. They need not be counted where there is room for all.
-fn has_room(layer: &[u64], last: u64, bytes: usize) -> bool
-    requires { ⌜ Layer0 (now layer) ⌝ }
-    ensures { λ r. ⌜ r ≡ leb (mapLen (ended (now (layer .entry)) last)) bytes ⌝ }
-{
-    if 16 + 12 * layer.len() <= bytes {
-        return true;
-    }
-    16 + 12 * count_used(layer, last) <= bytes
 }
 
 // The n low bytes of x stand from o on, lowest first.
@@ -82,10 +41,8 @@ struct Spot {
 
 // The entry of word q stands from o on, if the word is not zero, and its members are counted.
 fn put_entry(buf: &mut [u8], o: usize, q: usize, x: u64, members: u64) -> Spot
-    requires { ⌜ Room o x members (now buf) ⌝ }
-    ensures at { λ r. ⌜ r .at ≡ o + 12 * flag x ⌝ }
-    ensures members { λ r. ⌜ r .members ≡ members + ones x ⌝ }
-    ensures bytes { λ r. ⌜ now (buf .exit) ≡ sets (now (buf .entry)) o (entryOf q x) ⌝ }
+    requires { ⌜ Room o (x ∷ []) members (now buf) ⌝ }
+    ensures { λ r. ⌜ Entered q (x ∷ []) o members (now (buf .entry)) (r .at) (r .members) (now (buf .exit)) ⌝ }
 {
     if x == 0 {
         return Spot { at: o, members };
@@ -95,6 +52,52 @@ fn put_entry(buf: &mut [u8], o: usize, q: usize, x: u64, members: u64) -> Spot
     let sum = members + u64::count_ones(x) as u64;
     let at = o + 12;
     Spot { at, members: sum }
+}
+
+// The entries of the n words from q on.
+fn put_entries(layer: &[u64], q: usize, n: usize, buf: &mut [u8], at: usize, sum: u64) -> Spot
+    requires { ⌜ Rooms (now layer) q n at sum (now buf) ⌝ }
+    ensures { λ r. ⌜ Entered q (part q n (now (layer .entry))) at sum (now (buf .entry)) (r .at) (r .members) (now (buf .exit)) ⌝ }
+{
+    let mut members = sum;
+    let mut o = at;
+    let mut i = 0usize;
+    while i < n {
+        let k = q + i;
+        let s = put_entry(buf, o, k, layer[k], members);
+        o = s.at;
+        members = s.members;
+        i += 1;
+    }
+    Spot { at: o, members }
+}
+
+// The same of four words. Where they are zero together none is looked at alone.
+fn put_four(layer: &[u64], q: usize, buf: &mut [u8], o: usize, members: u64) -> Spot
+    requires { ⌜ Rooms (now layer) q 4 o members (now buf) ⌝ }
+    ensures { λ r. ⌜ Entered q (part q 4 (now (layer .entry))) o members (now (buf .entry)) (r .at) (r .members) (now (buf .exit)) ⌝ }
+{
+    if layer[q] | layer[q + 1] | layer[q + 2] | layer[q + 3] == 0 {
+        return Spot { at: o, members };
+    }
+    put_entries(layer, q, 4, buf, o, members)
+}
+
+// The entries of the first words, four a turn, behind the header's place.
+fn put_fours(layer: &[u64], fours: usize, buf: &mut [u8]) -> Spot
+    requires { ⌜ Rooms (now layer) 0 (4 * fours) 16 0 (now buf) ⌝ }
+    ensures { λ r. ⌜ Entered 0 (part 0 (4 * fours) (now (layer .entry))) 16 0 (now (buf .entry)) (r .at) (r .members) (now (buf .exit)) ⌝ }
+{
+    let mut members = 0u64;
+    let mut o = 16usize;
+    let mut k = 0usize;
+    while k < fours {
+        let s = put_four(layer, 4 * k, buf, o, members);
+        o = s.at;
+        members = s.members;
+        k += 1;
+    }
+    Spot { at: o, members }
 }
 
 // The header.
@@ -110,21 +113,16 @@ fn put_head(buf: &mut [u8], n: u64, members: u64, used: u64)
 
 // The entries of all words, and then the header in front of them; where the last one ends.
 fn put_map(layer: &[u64], last: u64, n: usize, buf: &mut [u8]) -> usize
-    requires { ⌜ Layer0 (now layer) × Fits (ended (now layer) last) (now buf) ⌝ }
+    requires { ⌜ Fits (now layer) last (now buf) ⌝ }
     ensures length { λ r. ⌜ r ≡ mapLen (ended (now (layer .entry)) last) ⌝ }
     ensures bytes { λ r. ⌜ now (buf .exit) ≡ sets (now (buf .entry)) 0 (mapOf n (ended (now (layer .entry)) last)) ⌝ }
 {
     let end = layer.len() - 1;
-    let mut members = 0u64;
-    let mut o = 16usize;
-    let mut q = 0usize;
-    while q < end {
-        let s = put_entry(buf, o, q, layer[q], members);
-        o = s.at;
-        members = s.members;
-        q += 1;
-    }
-    let s = put_entry(buf, o, q, last, members);
+    let fours = end / 4;
+    let q = 4 * fours;
+    let f = put_fours(layer, fours, buf);
+    let r = put_entries(layer, q, end - q, buf, f.at, f.members);
+    let s = put_entry(buf, r.at, end, last, r.members);
     put_head(buf, n as u64, s.members, ((s.at - 16) / 12) as u64);
     s.at
 }
@@ -137,9 +135,9 @@ pub fn write(store: &[u64], buf: &mut [u8]) -> Wrote
     if n == 0 {
         return Wrote::Refused(2);
     }
-    let layer = &store[store::end(n, 1)..];
-    let last = last_word(layer, n);
-    if !has_room(layer, last, buf.len()) {
+    let layer = &store[store.len() - (n + 63) / 64..];
+    let last = maproom::kept_word(layer, n, (n - 1) / 64);
+    if !maproom::has_room(layer, last, buf.len()) {
         return Wrote::Refused(8);
     }
     let end = put_map(layer, last, n, buf);

@@ -5,17 +5,16 @@ use mathlib.Core.Path.{_≡_, refl, sym, ap, _∙_, subst}
 use Prim.Native.Nat.{ℕ, zero, suc, _-_, _/_, _%_, _^_, _≤_, _<_}
 use native.Mathlib.Decide.{ℕ-discrete, decLt}
 use native.Mathlib.Omega.{arith}
-use borrow.Author.Tests.{ltb-true, eq-eqb, le-leb, eqb-true, eqb-false}
+use borrow.Author.Tests.{ltb-true, eq-eqb, le-leb}
 use lib.Dec.{ltb, eqb}
 use lib.ListN.{length, getD, set, replicate, length-replicate, getD-replicate, List·getD-eq-default}
 use lib.Seq.{getD-set-same, getD-set-other, set-out}
 use Rattle.util.specs.Outcome.{Outcome}
-use Rattle.util.specs.Word.{change}
 use Rattle.util.proofs.Bits.{change-lt}
 use Rattle.util.proofs.Same.{both}
 use Rattle.store.specs.Answer.{says, does, refuses}
 use Rattle.store.specs.Build.{empty}
-use Rattle.store.specs.Layout.{maxCap, isCap, storeLen, cap, isStore, StoreOf}
+use Rattle.store.specs.Layout.{maxCap, isCap, storeLen, cap}
 use Rattle.store.specs.Word.{word, put, anc, Sound, Words64}
 use Rattle.store.proofs.Build.{store-empty, sound-empty}
 use Rattle.store.proofs.Geometry.{is-store, store-kept}
@@ -23,12 +22,12 @@ use Rattle.store.proofs.Words.{word-lt}
 use Rattle.store.specs.declared.Did.{Did}
 use Rattle.whole.specs.Calls.{openOf, clearOf}
 use Rattle.members.specs.Calls.{holds}
-use Rattle.bitset.specs.Calls.{moveOf, addOf, removeOf, allBelow, addAll, addListOf}
-use Rattle.bitset.specs.Edit.{edit, edits, addLayers, layersOf}
+use Rattle.bitset.specs.Calls.{moveOf, allBelow, addAll, addListOf}
+use Rattle.bitset.specs.Edit.{edit, edits, layersOf}
 use Rattle.bitset.proofs.Edits.{length-edits, cap-edits}
 use Rattle.sets.proofs.Moves.{sound-add, sound-remove}
-use Rattle.ops.specs.Calls.{isPair, assignOf, mergedOf, Assigned}
-use Rattle.ops.proofs.Theorems.{paired, store-merged, words-merged, sound-merged, leaves-merged}
+use Rattle.merging.specs.Calls.{isPair, assignOf, mergedOf, Assigned}
+use Rattle.merging.proofs.Theorems.{paired, store-merged, words-merged, sound-merged, leaves-merged}
 use Rattle.roundtrip.specs.Claims.{Fine}
 use Rattle.roundtrip.proofs.Theorems.{read-keeps}
 use Rattle.claims.specs.Reached.{Reached}

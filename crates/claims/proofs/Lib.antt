@@ -1,2 +1,6 @@
 pub mod Histories
 pub mod Walks
+pub mod Maps
+pub mod Refusals
+pub mod Settles
+pub mod Contracts

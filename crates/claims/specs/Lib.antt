@@ -1,2 +1,4 @@
 pub mod Reached
 pub mod Lent
+pub mod Again
+pub mod Calls

@@ -8,7 +8,7 @@ use Rattle.store.specs.Layout.{maxCap, storeLen}
 use Rattle.store.specs.declared.Did.{Did}
 use Rattle.whole.specs.Calls.{openOf, clearOf}
 use Rattle.bitset.specs.Calls.{addOf, removeOf, addListOf}
-use Rattle.ops.specs.Calls.{Assigned}
+use Rattle.merging.specs.Calls.{Assigned}
 use Rattle.mapread.specs.Calls.{readOf}
 
 pub data Reached : ℕ → List ℕ → Type 0 where

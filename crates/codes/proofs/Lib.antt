@@ -1,3 +1,4 @@
 pub mod Turns
 pub mod Answers
 pub mod Accepted
+pub mod Pairs

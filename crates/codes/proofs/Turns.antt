@@ -1,5 +1,5 @@
 -- The kind of a code, by the tests that the code makes; what it takes; one turn of the check.
-use mathlib.Core.Bool.{cond, _&&_}
+use mathlib.Core.Bool.{true, false, cond, _&&_, _||_}
 use mathlib.Core.List.{List}
 use mathlib.Core.Logic.{_≢_, _⊎_, ⊎-elim}
 use mathlib.Core.Path.{_≡_, refl, sym, ap, _∙_}
@@ -11,8 +11,8 @@ use borrow.Author.Tests.{lt-ltb, le-ltb, le-leb, lt-leb, ne-eqb}
 use lib.Dec.{leb, ltb}
 use lib.ListN.{length, getD, drop, drop-of-length-le}
 use lib.Seq.{drop-cons}
-use Rattle.codes.specs.Codes.{kindOf, takes, takesIn, left}
-use Rattle.codes.specs.Steps.{Going}
+use Rattle.codes.specs.Codes.{kindOf, cutsIn, takes, takesIn, left}
+use Rattle.codes.specs.Steps.{Going, Looking}
 use Rattle.codes.specs.Codes.Kind.{isStore, isUnknown}
 
 -- ---- the kinds
@@ -25,9 +25,18 @@ module _ (c : ℕ) where
   pub kind-at : (n : ℕ) → c ≡ n → kindOf c ≡ kindOf n
   kind-at n e = ap kindOf e
 
-  pub kind-unknown : 4 ≤ c → c ≢ 16 → c ≢ 17 → c ≢ 18 → c ≢ 19 → c ≢ 20 → kindOf c ≡ isUnknown
+  pub kind-unknown : 4 ≤ c → (c < 16) ⊎ (19 ≤ c) → c ≢ 19 → c ≢ 20 → kindOf c ≡ isUnknown
   unfolding kindOf
-  kind-unknown h n16 n17 n18 n19 n20 = rw (le-ltb c 4 h, ne-eqb c 16 n16, ne-eqb c 17 n17, ne-eqb c 18 n18, ne-eqb c 19 n19, ne-eqb c 20 n20)
+  kind-unknown h o n19 n20 =
+      let out : (n : ℕ) → 16 ≤ n → n < 19 → c ≢ n = λ n a b e. ⊎-elim (λ (l : c < 16). omega arith) (λ (l : 19 ≤ c). omega arith) o in
+      rw (
+        le-ltb c 4 h,
+        ne-eqb c 16 (out 16 (omega arith) (omega arith)),
+        ne-eqb c 17 (out 17 (omega arith) (omega arith)),
+        ne-eqb c 18 (out 18 (omega arith) (omega arith)),
+        ne-eqb c 19 n19,
+        ne-eqb c 20 n20,
+      )
 
 -- ---- what a code takes
 
@@ -59,9 +68,7 @@ module _ (ls : List ℕ) (c : ℕ) where
 
   pub takes-unknown : 4 ≤ c → (c < 16) ⊎ (19 ≤ c) → c ≢ 19 → c ≢ 20 → 9 ≡ takesIn ls c
   unfolding takesIn
-  takes-unknown h o n19 n20 =
-      let out : (n : ℕ) → 16 ≤ n → n < 19 → c ≢ n = λ n a b e. ⊎-elim (λ (l : c < 16). omega arith) (λ (l : 19 ≤ c). omega arith) o in
-      sym (rw (kind-unknown c h (out 16 (omega arith) (omega arith)) (out 17 (omega arith) (omega arith)) (out 18 (omega arith) (omega arith)) n19 n20))
+  takes-unknown h o n19 n20 = sym (rw (kind-unknown c h o n19 n20))
 
 -- ---- one code of the check, where d wait
 
@@ -86,3 +93,20 @@ module _ {ls cs : List ℕ} {d j t : ℕ} (g : Going ls cs d j) (more : j < leng
 pub all-done : {ls cs : List ℕ} {d j : ℕ} → Going ls cs d j → length cs ≤ j → d ≡ left ls cs 0
 unfolding left
 all-done {ls} {cs} {d} g h = sym (ap (λ (l : List ℕ). left ls l d) (drop-of-length-le cs h)) ∙ g .same
+
+-- ---- the look for a code that cuts
+
+module _ {cs : List ℕ} {j : ℕ} (g : Looking cs j) where
+  this : j < length cs → (leb 19 (getD cs j 0) || cutsIn (drop (suc j) cs)) ≡ cutsIn cs
+  unfolding cutsIn
+  this h = ap cutsIn (sym (drop-cons cs j 0 h)) ∙ g .same
+
+  pub cut-found : j < length cs → 19 ≤ getD cs j 0 → true ≡ cutsIn cs
+  cut-found h l = sym (rw (le-leb 19 (getD cs j 0) l)) ∙ this h
+
+  pub cut-next : j < length cs → getD cs j 0 < 19 → Looking cs (j + 1)
+  cut-next h l = record { same = ap (λ (n : ℕ). cutsIn (drop n cs)) (add-one j) ∙ sym (rw (lt-leb 19 (getD cs j 0) l)) ∙ this h }
+
+  pub cut-none : length cs ≤ j → false ≡ cutsIn cs
+  unfolding cutsIn
+  cut-none h = sym (ap cutsIn (drop-of-length-le cs h)) ∙ g .same

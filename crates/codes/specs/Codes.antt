@@ -1,6 +1,6 @@
 -- The codes of a formula: the tree that they stand for, and which lists of codes are a formula. Document 01, refusal 6: "formula empty,
 -- over 32 codes, unknown code, store not lent, too few or over 8 values, not one left".
-use mathlib.Core.Bool.{Bool, cond, _&&_}
+use mathlib.Core.Bool.{Bool, false, cond, _&&_, _||_}
 use mathlib.Core.List.{List, [], _∷_, map}
 use Prim.Native.Nat.{ℕ, suc, _-_}
 use lib.Dec.{leb, ltb, eqb}
@@ -54,6 +54,13 @@ firstOf (e ∷ st) = e
 -- the formula that the codes stand for
 unfoldable pub treeOf : List ℕ → Tree
 treeOf cs = firstOf (trees cs [])
+
+-- ---- which codes look at the bits that exist
+
+-- "19 not, 20 all": whether some code looks at which bits exist; every code above 20 counts as one
+unfoldable pub cutsIn : List ℕ → Bool
+cutsIn [] = false
+cutsIn (c ∷ cs) = leb 19 c || cutsIn cs
 
 -- ---- the check
 

@@ -1,11 +1,15 @@
--- What the loop of the check keeps.
+-- What the loops over the codes keep.
 use mathlib.Core.List.{List}
 use mathlib.Core.Path.{_≡_}
 use Prim.Native.Nat.{ℕ, _≤_}
 use lib.ListN.{drop}
-use Rattle.codes.specs.Codes.{left}
+use Rattle.codes.specs.Codes.{cutsIn, left}
 
 -- after j codes d values wait, and what waits after the others is what waits after all
 pub record Going (ls cs : List ℕ) (d j : ℕ) : Type 0 where
   pub few : d ≤ 8
   pub same : left ls (drop j cs) d ≡ left ls cs 0
+
+-- whether one of the codes from code j on is 19 or more is whether one of all is
+pub record Looking (cs : List ℕ) (j : ℕ) : Type 0 where
+  pub same : cutsIn (drop j cs) ≡ cutsIn cs

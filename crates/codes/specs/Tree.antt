@@ -1,8 +1,10 @@
 -- A formula as a tree, and its layer words. Document 01, "Formulas": "Virtual sets become a lent list of 1 to 32 byte codes in postfix
 -- order"; the codes enter by `treeOf` of Codes alone.
+use mathlib.Core.Bool.{cond}
 use mathlib.Core.List.{List, [], _∷_}
 use Prim.Native.Nat.{ℕ, zero, suc, _-_, _*_, _^_, min}
 use lib.Bits.{bitAnd, bitOr, bitXor}
+use lib.Dec.{eqb}
 use lib.ListN.{getD}
 use Rattle.util.specs.Word.{flip}
 use Rattle.store.specs.Layout.{room}
@@ -25,6 +27,10 @@ existing places i = 2 ^ min 64 (places - i * 64) - 1
 unfoldable pub xorIn : ℕ → ℕ → ℕ → ℕ
 xorIn zero a b = bitXor a b
 xorIn (suc k) a b = bitOr a b
+
+-- "16 and, 17 or, 18 xor": what a code makes of two words of layer k; every other code is taken for xor
+unfoldable pub joined : ℕ → ℕ → ℕ → ℕ → ℕ
+joined code k x y = cond (eqb code 16) (bitAnd x y) (cond (eqb code 17) (bitOr x y) (xorIn k x y))
 
 -- "Not: layer 0 inverted, layers 1 to 3 all ones. All: all ones. Not and all are cut to bits where an id or word exists."
 unfoldable pub notIn : ℕ → ℕ → ℕ → ℕ

@@ -1,8 +1,42 @@
 // The codes of a formula over at most four stores: which lists of codes are one, and what is refused.
+ghost use mathlib.Core.Logic.{_≢_};
 ghost use mathlib.Core.Path.{_≡_};
-ghost use Rattle.codes.specs.Tree.{four};
-ghost use Rattle.codes.specs.Codes.{takesIn, left, isFormula};
+ghost use Prim.Native.Nat.{_≤_};
+ghost use lib.ListN.{length};
+ghost use Rattle.store.specs.Layout.{maxCap, storeLen};
+ghost use Rattle.codes.specs.Tree.{joined, four};
+ghost use Rattle.codes.specs.Codes.{cutsIn, takesIn, left, isFormula};
 ghost use Rattle.codes.specs.Check.{besideOf, sooner, storesOf, checkOf};
+
+// What a code makes of two words of layer k: 16 and, 17 or, 18 xor, and any other as 18.
+pub fn joined(code: u8, k: usize, x: u64, y: u64) -> u64
+    ensures { λ r. ⌜ r ≡ joined code k x y ⌝ }
+{
+    match code {
+        16 => x & y,
+        17 => x | y,
+        _ => {
+            if k == 0 {
+                return x ^ y;
+            }
+            x | y
+        }
+    }
+}
+
+// Whether some code is 19 or more: no other looks at which bits exist.
+pub fn cuts(codes: &[u8]) -> bool
+    ensures { λ r. ⌜ r ≡ cutsIn (now (codes .entry)) ⌝ }
+{
+    let mut j = 0usize;
+    while j < codes.len() {
+        if 19 <= codes[j] {
+            return true;
+        }
+        j += 1;
+    }
+    false
+}
 
 // Of two refusals the one that comes first; 0 is none.
 fn sooner(a: u32, b: u32) -> u32
@@ -17,18 +51,32 @@ fn sooner(a: u32, b: u32) -> u32
     if a < b { a } else { b }
 }
 
-// What a slice beside a store of capacity n is refused for: 0, 2 or 5.
-fn beside(n: usize, s: &[u64]) -> u32
+// What a slice that is not empty is refused for beside a store of capacity n: 0, 2 or 5.
+fn other(n: usize, s: &[u64]) -> u32
+    requires { ⌜ length (now s) ≢ 0 ⌝ }
     ensures { λ r. ⌜ r ≡ besideOf n (now (s .entry)) ⌝ }
 {
-    if s.len() == 0 {
-        return 0;
-    }
     let m = store::capacity(s);
     if m == 0 {
         return 2;
     }
     if m == n { 0 } else { 5 }
+}
+
+// What a slice beside a store of capacity n and of so many words is refused for. One as long that names n as well needs no store test.
+fn beside(n: usize, len: usize, s: &[u64]) -> u32
+    requires { ⌜ (1 ≤ n) × (n ≤ maxCap) × (len ≡ storeLen n) ⌝ }
+    ensures { λ r. ⌜ r ≡ besideOf n (now (s .entry)) ⌝ }
+{
+    if s.len() == 0 {
+        return 0;
+    }
+    if s.len() == len {
+        if s[0] == n as u64 {
+            return 0;
+        }
+    }
+    other(n, s)
 }
 
 // What the four slices are refused for: 0, 2 or 5.
@@ -39,7 +87,11 @@ fn stores(s0: &[u64], s1: &[u64], s2: &[u64], s3: &[u64]) -> u32
     if n == 0 {
         return 2;
     }
-    sooner(sooner(beside(n, s1), beside(n, s2)), beside(n, s3))
+    let len = s0.len();
+    sooner(
+        sooner(beside(n, len, s1), beside(n, len, s2)),
+        beside(n, len, s3),
+    )
 }
 
 // The values that a code takes before it puts one, where the four slices have these lengths; 9 for a code that may not stand there.

@@ -139,11 +139,6 @@ module _ (lw : ℕ → ℕ → ℕ) (bounded : Bounded lw) (t : ℕ) where
       )
       go (StopRefused n) q m ih e = absurd (true≢false (sym e))
 
-  stopped-from : (l : List Ask) (c : Cursor) → Wf t c → AllStopped (fillAt lw t) l c
-  unfolding AllStopped
-  stopped-from [] c wf = tt
-  stopped-from (a ∷ l) c wf = let m = fill-moved (a .room) (a .budget) c wf in (m .kept, stopped-from l (fillAt lw t a c .cursor) (m .wf))
-
   -- one that does not end makes what is left less
   ends-from : (l : List Ask) (c : Cursor) → Wf t c → Some l → cost lw t c (suc t) + length (rest lw t c (suc t)) < length l → fillsBy (fillAt lw t) c l .over ≡ true
   unfolding fillsBy
@@ -174,10 +169,6 @@ module _ (lw : ℕ → ℕ → ℕ) (bounded : Bounded lw) (t : ℕ) where
   pub fills-end : (l : List Ask) → Some l → allReads lw t + length (allIds lw t) ≤ length l → fillsBy (fillAt lw t) (startAt t (lw t 0)) l .over ≡ true
   fills-end l s h =
       ends-from l (startAt t (lw t 0)) (start-wf t (lw t 0) (bounded t 0)) s (omega (arith, start-cost lw t, ap length (start-rest lw t)))
-
-  -- none of them reads past its budget or refuses
-  pub fills-stopped : (l : List Ask) → AllStopped (fillAt lw t) l (startAt t (lw t 0))
-  fills-stopped l = stopped-from l (startAt t (lw t 0)) (start-wf t (lw t 0) (bounded t 0))
 
 -- ---- calls that are fills, one after another from the start
 

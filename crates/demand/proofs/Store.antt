@@ -20,7 +20,7 @@ use Rattle.demand.specs.Under.{allIds, allReads}
 use Rattle.iter.specs.Walk.{startAt, Run, runBy}
 use Rattle.iter.proofs.Answers.{start-is, next-runs}
 use Rattle.iter.proofs.Cursors.{fit-of}
-use Rattle.demand.specs.Walks.{onAt, Clear, Full, Some, AllKept, Spaced, Nexts, nextOn, walkOn}
+use Rattle.demand.specs.Walks.{onAt, Clear, Full, Some, AllKept, Spaced, Nexts, nextOn, walkOn, Walked}
 use Rattle.demand.proofs.Called.{calls-kept, calls-defined, calls-over, calls-spaced}
 use Rattle.demand.proofs.Members.{ids-below}
 
@@ -88,13 +88,6 @@ module _ (s : List ℕ) (is : isStore s ≡ true) (small : Words64 s) where
   walk-over c bs some h = ap (λ (x : Run). x .over) (from-start c bs) ∙ calls-over lw (word-lt (cap s) s small) t (nextOn s) call-is bs some h
 
 -- ---- on a sound store
-
--- what a walk that ended did: exactly the members, each once, rising; and the reads, the start's among them, that the definition counts
-pub record Walked (s : List ℕ) (c : Cursor) (bs : List ℕ) : Type 0 where
-  pub members-all : walkOn s c bs .members ≡ members s
-  pub exact : (i : ℕ) → List·Memᴰ i (walkOn s c bs .members) ↔ Member s i
-  pub rising : Rising 0 (walkOn s c bs .members)
-  pub counted : startIn s c .reads + walkOn s c bs .total ≡ allReads (word (cap s) s) (top (cap s))
 
 module _ (s : List ℕ) (is : isStore s ≡ true) (small : Words64 s) (z : Sound (cap s) s) where
   -- what the definition hands out is the members

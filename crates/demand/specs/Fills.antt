@@ -1,4 +1,4 @@
--- What is said of fills: "as many members as `out` holds or the budget allows", one after another, until one answers the end.
+-- What is said of fills, each of as many members as `out` holds or the budget allows, one after another until one answers the end.
 use mathlib.Core.Bool.{true, false}
 use mathlib.Core.List.{List, [], _∷_, _++_}
 use mathlib.Core.Path.{_≡_}

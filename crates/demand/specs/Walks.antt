@@ -1,14 +1,18 @@
 -- What is said of walks: over any layer words `lw`, with t the top layer, and on one store.
-use mathlib.Core.List.{List, [], _∷_}
+use mathlib.Core.List.{List, [], _∷_, List·Memᴰ}
+use mathlib.Core.Logic.{_↔_}
 use mathlib.Core.Path.{_≡_}
 use Prim.Native.Nat.{ℕ, suc, _+_, _/_, _%_, _^_, _≤_, _<_}
-use Rattle.util.specs.Word.{bit}
+use Rattle.util.specs.Word.{bit, Rising}
+use Rattle.store.specs.Layout.{top, cap}
+use Rattle.store.specs.Word.{word, Member as MemberOf, members}
 use Rattle.iter.specs.declared.Cursor.{Cursor}
 use Rattle.iter.specs.declared.Next.{Next}
 use Rattle.iter.specs.declared.Next.the-variants.{Member, Paused, End, Refused}
 use Rattle.iter.specs.declared.Step.{Step}
 use Rattle.iter.specs.Calls.{Fine, startIn, nextIn}
 use Rattle.iter.specs.Walk.{next, Run, runBy}
+use Rattle.demand.specs.Under.{allReads}
 
 -- ---- layer words
 
@@ -78,3 +82,10 @@ nextOn s b c = nextIn s c b
 -- started with any cursor, and then a call of next for each budget; its total is the reads after the start's
 abbrev pub walkOn : List ℕ → Cursor → List ℕ → Run
 walkOn s c bs = runBy (nextOn s) (startIn s c .cursor) bs
+
+-- what a walk that ended did: exactly the members, each once, rising; and the reads, the start's among them, that the definition counts
+pub record Walked (s : List ℕ) (c : Cursor) (bs : List ℕ) : Type 0 where
+  pub members-all : walkOn s c bs .members ≡ members s
+  pub exact : (i : ℕ) → List·Memᴰ i (walkOn s c bs .members) ↔ MemberOf s i
+  pub rising : Rising 0 (walkOn s c bs .members)
+  pub counted : startIn s c .reads + walkOn s c bs .total ≡ allReads (word (cap s) s) (top (cap s))

@@ -1,10 +1,10 @@
 -- The desk and its slots. docs/REPLAY.md: "There are 550,000 words of memory, all 0 at the start, and 16 slots, S from 0 to 15. A slot
 -- is a part of the memory, empty at the start; slots may share words."
-use mathlib.Core.Bool.{Bool, cond, _&&_}
+use mathlib.Core.Bool.{Bool, cond}
 use mathlib.Core.List.{List, _++_}
 use Prim.Native.Nat.{ℕ, _+_, _-_, _*_}
 use lib.Dec.{leb, ltb}
-use lib.ListN.{length, getD, set, take, drop}
+use lib.ListN.{length, getD, take, drop}
 use Rattle.desk.specs.declared.Span.{Span}
 
 -- number i of the line, counted from 1
@@ -22,13 +22,6 @@ isSlot s = ltb s 16
 -- where the table says where slot s begins; how many words it has stands behind it
 abbrev pub entryOf : ℕ → ℕ
 entryOf s = 65 + 2 * s
-
--- where the memory begins, and its words
-abbrev pub memory : ℕ
-memory = 97
-
-abbrev pub words : ℕ
-words = 550000
 
 -- a part of n words, or an empty one where they end before
 abbrev pub cutOf : ℕ → ℕ → ℕ → Span
@@ -49,11 +42,3 @@ partOf desk s = let p = spanOf desk s in take (p .to - p .from) (drop (p .from) 
 -- the desk with other words in the place of the slot's
 unfoldable pub backOf : List ℕ → ℕ → List ℕ → List ℕ
 backOf desk s ws = let p = spanOf desk s in take (p .from) desk ++ (ws ++ drop (p .to) desk)
-
--- "slot S is the part of the memory from word FROM on, LEN words long. `?` where that leaves the memory"
-unfoldable pub fitsOf : ℕ → ℕ → ℕ → Bool
-fitsOf s from len = isSlot s && leb (from + len) words
-
-unfoldable pub lentOf : List ℕ → ℕ → ℕ → ℕ → List ℕ
-lentOf desk s from len =
-    cond (fitsOf s from len) (set (set desk (entryOf s) (memory + from)) (entryOf s + 1) len) desk

@@ -4,14 +4,10 @@
 ghost use mathlib.Core.Path.{_≡_};
 ghost use Prim.Native.Nat.{_≤_};
 ghost use lib.ListN.{length};
-ghost use Rattle.desk.specs.Slots.{cutOf, spanOf, partOf, fitsOf, lentOf};
-ghost use Rattle.desk.specs.Digest.{mixOf, digestOf};
+ghost use Rattle.desk.specs.Slots.{cutOf, spanOf, partOf};
 
-const SLOTS: usize = 65;
-
-const MEMORY: u64 = 97;
-
-const WORDS: u64 = 550000;
+// Where the table of slots begins.
+pub const SLOTS: usize = 65;
 
 // A part of the desk, from a word on and up to one.
 pub struct Span {
@@ -55,55 +51,4 @@ pub fn part(desk: &[u64], s: u64) -> &[u64]
     let a = p.from;
     let e = p.to;
     &desk[a..e]
-}
-
-// Whether there is a slot s, and a part of the memory from a word on, so many words long.
-fn fits(s: u64, from: u64, len: u64) -> bool
-    ensures { λ r. ⌜ r ≡ fitsOf s from len ⌝ }
-{
-    if 15 < s {
-        return false;
-    }
-    if WORDS < from {
-        return false;
-    }
-    len <= WORDS - from
-}
-
-// Slot s becomes the part of the memory from a word on, so many words long; answers whether it fits, and changes nothing where not.
-pub fn lend(desk: &mut [u64], s: u64, from: u64, len: u64) -> bool
-    ensures { λ r. ⌜ (r ≡ fitsOf s from len) × (now (desk .exit) ≡ lentOf (now (desk .entry)) s from len) ⌝ }
-{
-    if fits(s, from, len) {
-        let p = SLOTS + 2 * (s as usize);
-        store::put(desk, p, MEMORY + from);
-        store::put(desk, p + 1, len);
-        return true;
-    }
-    false
-}
-
-// h * 1099511628211 mod 2 ^ 64. The factor is 2 ^ 40 + 2 ^ 8 + 2 ^ 7 + 2 ^ 5 + 2 ^ 4 + 2 + 1.
-fn times(h: u64) -> u64
-    ensures { λ r. ⌜ r ≡ mixOf h ⌝ }
-{
-    let a = std::num::wrapping_add_u64(h << 40, h << 8);
-    let b = std::num::wrapping_add_u64(h << 7, h << 5);
-    let c = std::num::wrapping_add_u64(h << 4, h << 1);
-    let d = std::num::wrapping_add_u64(a, b);
-    let e = std::num::wrapping_add_u64(c, h);
-    std::num::wrapping_add_u64(d, e)
-}
-
-// A digest of words (FNV-1a, a word at a time).
-pub fn digest(part: &[u64]) -> u64
-    ensures { λ r. ⌜ r ≡ digestOf (now (part .entry)) ⌝ }
-{
-    let mut h = 14695981039346656037u64;
-    let mut i = 0usize;
-    while i < part.len() {
-        h = times(h ^ part[i]);
-        i += 1;
-    }
-    h
 }

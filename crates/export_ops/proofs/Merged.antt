@@ -6,7 +6,7 @@ use Rattle.store.specs.Answer.{didPaper}
 use Rattle.store.specs.declared.Did.{Did}
 use Rattle.said.specs.Numbers.{saidOf}
 use Rattle.said.specs.declared.Said.{Said}
-use Rattle.ops.specs.Calls.{assignOf, Assigned}
+use Rattle.merging.specs.Calls.{assignOf, Assigned}
 use Rattle.abi.specs.Abi.{answerOf, toldOf}
 use Rattle.abi.specs.declared.Answer.{Answer}
 use Rattle.abi.proofs.Tells.{tells-numbers}

@@ -1,6 +1,6 @@
 // Or, and, xor in place for C and Rust: slices arrive as pointer and length.
 ghost use mathlib.Core.Path.{_≡_};
-ghost use Rattle.ops.specs.Calls.{assignOf};
+ghost use Rattle.merging.specs.Calls.{assignOf};
 ghost use Rattle.abi.specs.Abi.{answerOf};
 ghost use Rattle.export_ops.specs.Calls.{Leaves};
 use abi::Answer;

@@ -16,7 +16,7 @@ use Rattle.fill.proofs.Fills.{fill-same, fill-answered}
 use Rattle.codes.specs.Tree.{four, nth}
 use Rattle.codes.proofs.Accepted.{accepted}
 use Rattle.machine.specs.Machine.{machineWord}
-use Rattle.machine.specs.Steps.{Pair}
+use Rattle.pairs.specs.Pairs.{Pair}
 use Rattle.formula.specs.Calls.{wordsOf}
 use Rattle.formula_iter.specs.Calls.{refusalIn}
 use Rattle.formula_iter.proofs.Answers.{none-refused, walked-words}

@@ -11,13 +11,13 @@ use Rattle.store.specs.Word.{word}
 use Rattle.store.proofs.Words.{word-in, word-out}
 use Rattle.layers.specs.Calls.{layerPart}
 use Rattle.iter.proofs.Answers.{lent-words}
-use Rattle.codes.specs.Tree.{four, nth, value, treeWord}
+use Rattle.codes.specs.Tree.{joined, four, nth, value, treeWord}
 use Rattle.codes.specs.Codes.{kindOf, trees, treeOf}
 use Rattle.codes.proofs.Accepted.{Accepted, Beside}
-use Rattle.machine.specs.Steps.{Pair}
+use Rattle.pairs.specs.Pairs.{Pair}
 use Rattle.machine.proofs.Arms.{three}
 use Rattle.formula.specs.Calls.{wordsOf}
-use Rattle.pair_fill.specs.Pair.{joined, pairWords}
+use Rattle.pair_fill.specs.Pair.{pairWords}
 use Rattle.pair_fill.proofs.Pairs.{three-parts}
 
 -- ---- the words of a slice

@@ -47,7 +47,7 @@ fn sink(
             reads: spent,
         };
     }
-    formula_iter::sink(c, codes, n, s0, s1, s2, s3, spent, budget)
+    formula_sink::sink(c, codes, n, s0, s1, s2, s3, spent, budget)
 }
 
 // Fill over a formula, where nothing is refused.
@@ -104,7 +104,7 @@ pub fn fill(
     if no != 0 {
         return refused(c, no);
     }
-    if machine::is_pair(codes) {
+    if pairs::is_pair(codes) {
         return named_fill::fill(c, codes, s0, s1, s2, s3, budget, out);
     }
     let n = store::get(s0, 0) as usize;

@@ -21,7 +21,7 @@ use Rattle.store.specs.declared.Found.the-variants.{Refused}
 use Rattle.store.proofs.Build.{word-layer0}
 use Rattle.store.proofs.Geometry.{is-store, store-is, end-step}
 use Rattle.store.proofs.Words.{on-lt}
-use Rattle.free.specs.Calls.{searchStart, freeFrom, firstOf, firstFreeOf}
+use Rattle.free.specs.Calls.{searchStart, freeFrom, firstOf, firstFreeOf, LowestFree}
 use Rattle.free.specs.Steps.{freeAt, freeIn, Small}
 
 -- ---- layer 0, as the code lends it
@@ -98,18 +98,12 @@ module _ (s : List ℕ) (is : StoreOf (cap s) s) where
   unfolding firstFreeOf
   answer-is = ap (λ (b : Bool). cond b (firstOf (freeFrom (cap s) s searchStart)) (refuses 2 tt)) (is-store is)
 
-  pub record Found (i : ℕ) : Type 0 where
-    pub from : searchStart ≤ i
-    pub below : i < cap s
-    pub free : Member s i → ⊥
-    pub lowest : (j : ℕ) → searchStart ≤ j → j < i → Member s j
-
   -- THE ANSWER is below N and not a member, and every smaller id from the first on is a member
-  pub free-found : (i : ℕ) → firstFreeOf s ≡ gives i tt → Found i
+  pub free-found : (i : ℕ) → firstFreeOf s ≡ gives i tt → LowestFree s i
   unfolding freeFrom
   free-found i e = go (places free searchStart (cap s - searchStart)) refl (sym answer-is ∙ e)
     where
-      go : (l : List ℕ) → places free searchStart (cap s - searchStart) ≡ l → firstOf l ≡ gives i tt → Found i
+      go : (l : List ℕ) → places free searchStart (cap s - searchStart) ≡ l → firstOf l ≡ gives i tt → LowestFree s i
       go [] q o = absurd (let z : 12 ≡ 0 = ap (λ (x : Outcome (Unit {0})). getD (x .numbers) 0 0) o in omega arith)
       go (x ∷ l) q o =
           let z : x ≡ i = ap (λ (x : Outcome (Unit {0})). getD (x .numbers) 1 0) o in

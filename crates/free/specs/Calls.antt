@@ -2,12 +2,12 @@
 -- is none."
 use mathlib.Core.Bool.{cond}
 use mathlib.Core.List.{List, [], _∷_}
-use Prim.Native.Nat.{ℕ, _-_}
+use Prim.Native.Nat.{ℕ, _-_, _≤_, _<_}
 use Rattle.util.specs.Outcome.{Outcome}
 use Rattle.util.specs.Word.{places}
 use Rattle.store.specs.Answer.{gives, refuses}
 use Rattle.store.specs.Layout.{cap, isStore}
-use Rattle.store.specs.Word.{on}
+use Rattle.store.specs.Word.{on, Member}
 
 -- the id that the search begins with
 abbrev pub searchStart : ℕ
@@ -24,3 +24,10 @@ firstOf (i ∷ l) = gives i tt
 
 unfoldable pub firstFreeOf : List ℕ → Outcome (Unit {0})
 firstFreeOf s = cond (isStore s) (firstOf (freeFrom (cap s) s searchStart)) (refuses 2 tt)
+
+-- what an answer i says of the members: "the lowest id below N that is not a member"
+pub record LowestFree (s : List ℕ) (i : ℕ) : Type 0 where
+  pub from : searchStart ≤ i
+  pub below : i < cap s
+  pub free : Member s i → ⊥
+  pub lowest : (j : ℕ) → searchStart ≤ j → j < i → Member s j

@@ -12,7 +12,8 @@ use Rattle.codes.specs.Tree.{four}
 use Rattle.desk.specs.Slots.{numberOf, partOf}
 use Rattle.operands.specs.Operands.{byteOf, numbersOf, codesOf, slicesOf}
 use Rattle.operands.proofs.Loads.{codes-are, slices-are}
-use Rattle.cursors.specs.Cursors.{isCursor, cursorOf, steppedOf}
+use Rattle.cursors.specs.Cursors.{isCursor, cursorOf}
+use Rattle.putback.specs.Putback.{steppedOf}
 use Rattle.iter.specs.declared.Cursor.{Cursor}
 use Rattle.iter.specs.declared.Step.{Step}
 use Rattle.formula_iter.specs.Calls.{startIn, nextIn}

@@ -7,7 +7,8 @@ use lib.Dec.{eqb, leb}
 use lib.ListN.{length}
 use Rattle.desk.specs.Slots.{numberOf, partOf}
 use Rattle.operands.specs.Operands.{codesOf, slicesOf}
-use Rattle.cursors.specs.Cursors.{isCursor, cursorOf, steppedOf}
+use Rattle.cursors.specs.Cursors.{isCursor, cursorOf}
+use Rattle.putback.specs.Putback.{steppedOf}
 use Rattle.iter.specs.declared.Step.{Step}
 use Rattle.formula_iter.specs.Calls.{startIn, nextIn}
 use Rattle.said.specs.Numbers.{unknown, Left, left}

@@ -82,7 +82,7 @@ pub fn change(desk: &mut [u64], word: u64, count: usize) -> Said
         let t = walk(desk, word);
         let k = t.cursor;
         let a = t.answer;
-        return cursors::stepped(desk, store::get(desk, 6), k, a, t.reads);
+        return putback::stepped(desk, store::get(desk, 6), k, a, t.reads);
     }
     said::unknown()
 }

@@ -1,3 +1,2 @@
-pub mod Op
 pub mod Named
 pub mod Loops

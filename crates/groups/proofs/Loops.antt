@@ -18,7 +18,7 @@ use Rattle.util.proofs.Bits.{bit-lt, bit-of-zero, bit-high, word-ext, change-sa
 use Rattle.util.proofs.Same.{both}
 use Rattle.store.specs.Build.{flag, flags}
 use Rattle.store.proofs.Build.{flag-lt, flags-lt, bit-flags}
-use Rattle.groups.specs.Op.{opWord}
+use Rattle.operation.specs.Op.{opWord}
 use Rattle.groups.specs.Group.{named, marked, all, isDense, wordsOf, overOf, Merging, Naming}
 use Rattle.groups.proofs.Named.{length-named, named-here, named-off, marked-on, marked-off, marked-lt, bit-all}
 

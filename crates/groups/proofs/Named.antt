@@ -2,22 +2,21 @@
 use mathlib.Core.Bool.{Bool, true, false, cond}
 use mathlib.Core.List.{List, [], _∷_}
 use mathlib.Core.Logic.{_≢_, _↔_}
-use mathlib.Core.Path.{_≡_, refl, sym, ap, ap₂, _∙_, subst}
+use mathlib.Core.Path.{_≡_, refl, sym, ap, ap₂, _∙_}
 use Prim.Native.Nat.{ℕ, zero, suc, _+_, _-_, _^_, _≤_, _<_, min, max}
 use native.Mathlib.Nat.{add-zero}
 use native.Mathlib.Decide.{decLt}
 use native.Mathlib.Omega.{arith}
-use borrow.Author.Tests.{eqb-true, eqb-false}
-use lib.Bits.{bitAnd, bitOr, and-le-l, and-le-r, or-lt}
+use lib.Bits.{bitAnd, and-le-l, and-le-r, or-lt}
 use lib.Dec.{eqb}
 use lib.ListN.{length, getD, List·getD-eq-default}
 use Rattle.util.specs.Word.{bit, flip}
-use Rattle.util.proofs.Bits.{bit-lt, bit-on, bit-off, bit-or, bit-and, bit-flip, bit-of-zero}
+use Rattle.util.proofs.Bits.{bit-lt, bit-or, bit-and, bit-flip, bit-of-zero}
 use Rattle.store.specs.Build.{flag, flags}
 use Rattle.store.proofs.Build.{flag-lt, flag-on, bit-flags}
-use Rattle.groups.specs.Op.{opWord, moved}
+use Rattle.operation.specs.Op.{opWord, moved}
 use Rattle.groups.specs.Group.{named, marked, all, isDense, chosen, wordsOf, overOf}
-use Rattle.groups.proofs.Op.{op-still, op-none}
+use Rattle.operation.proofs.Op.{op-still, op-none}
 
 pub length-named : (op m i : ℕ) (xs ys : List ℕ) → length (named op m i xs ys) ≡ length xs
 unfolding named

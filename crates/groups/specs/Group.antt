@@ -8,7 +8,7 @@ use lib.Dec.{eqb, leb}
 use lib.ListN.{length, getD}
 use Rattle.util.specs.Word.{bit, flip, count}
 use Rattle.store.specs.Build.{flags}
-use Rattle.groups.specs.Op.{opWord}
+use Rattle.operation.specs.Op.{opWord}
 
 -- of the words from place i on, those that m names become the operation's, each with the other word at its place; the rest stay
 unfoldable pub named : ℕ → ℕ → ℕ → List ℕ → List ℕ → List ℕ

@@ -1,42 +1,12 @@
 // Two groups of up to 64 words, merged by or, and, or xor, with the summary word over the first.
-ghost use mathlib.Core.List.{List};
 ghost use mathlib.Core.Path.{_≡_};
 ghost use Prim.Native.Nat.{_<_};
+ghost use lib.Dec.{leb};
 ghost use lib.ListN.{length, getD, set};
+ghost use Rattle.util.specs.Word.{count};
 ghost use Rattle.store.specs.Build.{flag, flags};
-ghost use Rattle.groups.specs.Op.{opWord, moved};
+ghost use Rattle.operation.specs.Op.{opWord};
 ghost use Rattle.groups.specs.Group.{named, all, isDense, wordsOf, overOf};
-
-// The operations, by a formula's codes.
-pub const AND: u64 = 16;
-
-pub const OR: u64 = 17;
-
-pub const XOR: u64 = 18;
-
-// One word with another; what is neither AND nor OR counts as XOR.
-pub fn combine(op: u64, x: u64, y: u64) -> u64
-    ensures { λ r. ⌜ r ≡ opWord op x y ⌝ }
-{
-    if op == AND {
-        return x & y;
-    }
-    if op == OR {
-        return x | y;
-    }
-    x ^ y
-}
-
-// The word that decides, x or what stands at place c of the other part: where it is 0, x stays. The other part is read only where it
-// decides, so that nothing waits for a word that does not.
-pub fn moving(op: u64, x: u64, other: &[u64], c: usize) -> u64
-    ensures { λ r. ⌜ r ≡ moved op x (getD (now (other .entry)) c 0) ⌝ }
-{
-    if op != AND {
-        return store::get(other, c);
-    }
-    x
-}
 
 fn flag(x: u64) -> u64
     ensures { λ r. ⌜ r ≡ flag x ⌝ }
@@ -44,17 +14,27 @@ fn flag(x: u64) -> u64
     if x == 0 { 0 } else { 1 }
 }
 
+// Whether three words or fewer are named: a quick look, since to count the bits of a word takes some twenty instructions.
+fn is_few(m: u64) -> bool
+    ensures { λ r. ⌜ r ≡ leb (count m) 3 ⌝ }
+{
+    lowest::drop_lowest(lowest::drop_lowest(lowest::drop_lowest(m))) == 0
+}
+
 // Whether two groups go as a whole: both are full, and 12 words or more are named.
 fn is_dense(n: usize, l: usize, m: u64) -> bool
     ensures { λ r. ⌜ r ≡ isDense n l m ⌝ }
 {
-    if n == 64 {
-        if l == 64 {
-            return 12 <= u64::count_ones(m);
-        }
+    if n != 64 {
         return false;
     }
-    false
+    if l != 64 {
+        return false;
+    }
+    if is_few(m) {
+        return false;
+    }
+    12 <= u64::count_ones(m)
 }
 
 // A full group, each word with the other's at its place.
@@ -63,7 +43,7 @@ fn merge_64(part: &mut [u64], other: &[u64], op: u64)
     ensures { λ r. ⌜ now (part .exit) ≡ named op all 0 (now (part .entry)) (now (other .entry)) ⌝ }
 {
     for t in 0..64 {
-        part[t] = combine(op, part[t], other[t]);
+        part[t] = operation::combine(op, part[t], other[t]);
     }
 }
 
@@ -93,7 +73,7 @@ fn leaf(part: &mut [u64], other: &[u64], t: usize, op: u64) -> u64
     ensures { λ r. ⌜ (now (part .exit) ≡ set (now (part .entry)) t (opWord op (getD (now (part .entry)) t 0) (getD (now (other .entry)) t 0))) × (r ≡ getD (now (part .exit)) t 0) ⌝ }
 {
     if t < part.len() {
-        let z = combine(op, part[t], store::get(other, t));
+        let z = operation::combine(op, part[t], store::get(other, t));
         part[t] = z;
         return z;
     }

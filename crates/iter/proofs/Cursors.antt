@@ -7,12 +7,14 @@ use Prim.Native.Nat.{ℕ, zero, suc, _+_, _-_, _*_, _%_, _^_, _≤_, _<_}
 use native.Mathlib.Decide.{ℕ-discrete, decLt}
 use native.Mathlib.Nat.{le-of-suc-le-suc, eq-or-lt-of-le, one-le-pow, pow-suc, pow-le-pow-right, lt-of-lt-of-le}
 use native.Mathlib.Omega.{arith}
-use borrow.Author.Tests.{lt-ltb, le-ltb, eq-eqb, ne-eqb, eqb-true, eqb-false, ltb-true, ltb-false}
+use borrow.Author.Tests.{lt-ltb, le-ltb, eq-eqb, eqb-true, eqb-false, ltb-true, ltb-false}
 use lib.Dec.{ltb, eqb}
 use lib.ListN.{length, getD, set, length-set, replicate, length-replicate}
 use lib.Seq.{getD-set-same, getD-set-other, set-out}
 use Rattle.util.proofs.Places.{lowest}
 use Rattle.util.proofs.Same.{both}
+use Rattle.levels.specs.Levels.{between}
+pub use Rattle.levels.proofs.Masks.{low-pass, low-stop, prefix-below, prefix-top}
 use Rattle.iter.specs.declared.Cursor.{Cursor}
 use Rattle.iter.specs.Calls.{prefixesFit, Fine}
 use Rattle.iter.specs.Steps.{isReading, Descended, lowered, Lowers}
@@ -49,15 +51,6 @@ low-found ms k (suc n) = go (eqb (getD ms k 0) 0) refl (low-found ms (suc k) n)
       found = λ h. let n = eqb-false (getD ms k 0) 0 e in omega (arith, n);
     }
 
--- as a search from layer k on meets it: an empty mask is passed, and the first other one is it
-pub low-pass : (ms : List ℕ) (k n : ℕ) → getD ms k 0 ≡ 0 → lowFrom ms k (suc n) ≡ lowFrom ms (suc k) n
-unfolding lowFrom
-low-pass ms k n e = rw (eq-eqb (getD ms k 0) 0 e)
-
-pub low-stop : (ms : List ℕ) (k n : ℕ) → getD ms k 0 ≢ 0 → lowFrom ms k (suc n) ≡ k
-unfolding lowFrom
-low-stop ms k n e = rw (ne-eqb (getD ms k 0) 0 e)
-
 -- there is one
 pub low-one : {ms : List ℕ} {n l m : ℕ} → Low ms 0 n l → Low ms 0 n m → l ≡ m
 low-one {ms} {n} {l} {m} a b = go (decLt l m) (decLt m l)
@@ -74,6 +67,15 @@ pub low-at : {ms : List ℕ} {n l : ℕ} → l ≡ lowFrom ms 0 n → Low ms 0 n
 low-at {ms} {n} e = subst (Low ms 0 n) (sym e) (low-found ms 0 n)
 
 -- ---- whether a word has to be read
+
+-- one is read where the lowest layer with a mask is one above layer 0
+pub reading-between : (t l : ℕ) → between 0 l (suc t) ≡ isReading (kindOf t l)
+reading-between t zero = refl
+reading-between t (suc j) = go (decLt j t)
+  where
+    go : Dec (j < t) → between 0 (suc j) (suc t) ≡ isReading (kindOf t (suc j))
+    go (yes h) = rw (lt-ltb j t h, lt-ltb 0 (suc j) (omega arith), lt-ltb (suc j) (suc t) (omega arith))
+    go (no h) = rw (le-ltb j t (omega arith), lt-ltb 0 (suc j) (omega arith), le-ltb (suc j) (suc t) (omega arith))
 
 pub reading-low : (t : ℕ) (c : Cursor) → isReading (kind t c) ≡ true → (0 < lowLayer t c) × (lowLayer t c < suc t)
 reading-low t c e = go (lowLayer t c) e
@@ -118,14 +120,6 @@ module _ (c : Cursor) (want : isReading (kind 3 c) ≡ true) where
         (e, subst (λ (k : ℕ). 0 < getD (c .masks) k 0) e (low-found (c .masks) 0 4 .found (omega (arith, e))))
 
 -- ---- prefixes
-
-pub prefix-below : (t : ℕ) (ps : List ℕ) (k : ℕ) → k < t → prefixAt t ps k ≡ getD ps k 0
-unfolding prefixAt
-prefix-below t ps k h = rw (lt-ltb k t h)
-
-pub prefix-top : (t : ℕ) (ps : List ℕ) (k : ℕ) → t ≤ k → prefixAt t ps k ≡ 0
-unfolding prefixAt
-prefix-top t ps k h = rw (le-ltb k t h)
 
 pub prefix-same : (t : ℕ) (ps qs : List ℕ) (k : ℕ) → getD qs k 0 ≡ getD ps k 0 → prefixAt t qs k ≡ prefixAt t ps k
 unfolding prefixAt

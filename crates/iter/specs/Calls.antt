@@ -1,15 +1,15 @@
 -- Start and next on one store, for all inputs. Document 01: "Each returns its number and zeros elsewhere and changes nothing lent; a refused
 -- next hands back its cursor as given."
-use mathlib.Core.Bool.{Bool, true, cond, _&&_}
+use mathlib.Core.Bool.{Bool, cond}
 use mathlib.Core.List.{List, _∷_, _++_}
 use mathlib.Core.Path.{_≡_, refl, ap₂}
 use Prim.Native.Nat.{ℕ, zero, suc, _+_, _-_, _%_, _^_, _<_}
-use lib.Dec.{ltb, eqb}
 use lib.ListN.{length, getD, take, drop}
 use lib.Seq.{take-append-seam, drop-append-seam}
 use Rattle.util.specs.Outcome.{Outcome, Paper}
 use Rattle.store.specs.Layout.{top, cap, isStore}
 use Rattle.store.specs.Word.{word}
+unfoldable pub use Rattle.prefixes.specs.Prefixes.{prefixesFit}
 use Rattle.iter.specs.declared.Cursor.{Cursor}
 use Rattle.iter.specs.declared.Next.{Next}
 use Rattle.iter.specs.declared.Next.the-variants.{Member, Paused, End, Refused}
@@ -80,12 +80,7 @@ written a = record { numbers = stepPaper .numbers a; lent = tt }
 abbrev pub refused : ℕ → Cursor → Step
 refused n c = record { cursor = c; reads = 0; answer = Refused n }
 
--- Refusal 7 is given where this is false: "a prefix not a multiple of 64, or prefix 0, 1, 2 not below 16,777,216, 262,144, 4,096", of
--- the layers below layer k, with t the top layer
-unfoldable pub prefixesFit : ℕ → List ℕ → ℕ → Bool
-prefixesFit t ps zero = true
-prefixesFit t ps (suc k) = prefixesFit t ps k && (eqb (getD ps k 0 % 64) 0 && ltb (getD ps k 0) (64 ^ (suc t - k)))
-
+-- refusal 7 is given where this is false
 abbrev pub fits : ℕ → Cursor → Bool
 fits t c = prefixesFit t (c .prefix) t
 
@@ -115,7 +110,3 @@ startOf s c = written (startIn s c)
 
 abbrev pub nextOf : List ℕ → Cursor → ℕ → Outcome (Unit {0})
 nextOf s c b = written (nextIn s c b)
-
--- the cursor of a walk that is started, for a caller with none
-abbrev pub startedOf : List ℕ → Cursor
-startedOf s = startIn s (startAt 3 0) .cursor

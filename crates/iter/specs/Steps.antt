@@ -3,8 +3,8 @@ use mathlib.Core.Bool.{Bool, true, false, cond}
 use mathlib.Core.List.{List, []}
 use mathlib.Core.Path.{_≡_}
 use Prim.Native.Nat.{ℕ, zero, suc, _-_, _%_, _≤_}
-use lib.Dec.{eqb}
 use lib.ListN.{getD}
+unfoldable pub use Rattle.prefixes.specs.Prefixes.{refusalOf}
 use Rattle.iter.specs.declared.Cursor.{Cursor}
 use Rattle.iter.specs.declared.Next.the-variants.{Member, Paused, End}
 use Rattle.iter.specs.declared.Step.{Step}
@@ -12,10 +12,6 @@ use Rattle.iter.specs.declared.Sunk.{Sunk}
 use Rattle.iter.specs.Calls.{Fine}
 use Rattle.iter.specs.Walk.{Kind, lowLayer, kind, placeAt, handed, handled, more, descend, next}
 use Rattle.iter.specs.Walk.Kind.{gives, reads, done}
-
--- "All else 2 .., then rising": by the capacity, 0 where there is no store, and whether the prefixes fit
-unfoldable pub refusalOf : ℕ → Bool → ℕ
-refusalOf n fit = cond (eqb n 0) 2 (cond fit 0 7)
 
 -- the words of layers that are lent as lists, the lowest first
 abbrev pub parts : List (List ℕ) → ℕ → ℕ → ℕ

@@ -3,20 +3,16 @@
 use mathlib.Core.Bool.{Bool, true, false, cond}
 use mathlib.Core.List.{List, [], _∷_}
 use Prim.Native.Nat.{ℕ, zero, suc, _+_, _-_, _*_, _%_, _^_}
-use lib.Count.{trailingZeros}
-use lib.Dec.{ltb, eqb}
+use lib.Dec.{ltb}
 use lib.ListN.{getD, set, replicate}
+use Rattle.levels.specs.Levels.{lowest, bare}
+unfoldable pub use Rattle.levels.specs.Levels.{lowFrom, prefixAt}
 use Rattle.iter.specs.declared.Cursor.{Cursor}
 use Rattle.iter.specs.declared.Next.{Next}
 use Rattle.iter.specs.declared.Next.the-variants.{Member, Paused, End, Refused}
 use Rattle.iter.specs.declared.Step.{Step}
 
 -- ---- what a cursor stands before
-
--- the first of the n layers from layer k on whose mask is not 0; k + n where there is none
-unfoldable pub lowFrom : List ℕ → ℕ → ℕ → ℕ
-lowFrom ms k zero = k
-lowFrom ms k (suc n) = let r = lowFrom ms (suc k) n in cond (eqb (getD ms k 0) 0) r k
 
 -- "the lowest layer with a non-zero mask", of the layers 0 to t; t + 1 where all masks are 0
 abbrev pub lowLayer : ℕ → Cursor → ℕ
@@ -39,11 +35,7 @@ kind t c = kindOf t (lowLayer t c)
 
 -- layer k "gives its lowest bit"
 abbrev pub firstBit : Cursor → ℕ → ℕ
-firstBit c k = trailingZeros 64 (getD (c .masks) k 0)
-
--- layer k's prefix; the top layer has none
-unfoldable pub prefixAt : ℕ → List ℕ → ℕ → ℕ
-prefixAt t ps k = cond (ltb k t) (getD ps k 0) 0
+firstBit c k = lowest (c .masks) k
 
 -- the place of that bit in its layer; a prefix is a multiple of 64, so the sum is the crate's bitwise or
 unfoldable pub placeAt : ℕ → Cursor → ℕ → ℕ
@@ -54,7 +46,7 @@ abbrev pub cleared : Cursor → ℕ → ℕ
 cleared c k = getD (c .masks) k 0 - 2 ^ firstBit c k
 
 unfoldable pub less : Cursor → ℕ → List ℕ
-less c k = set (c .masks) k (cleared c k)
+less c k = bare (c .masks) k
 
 -- "A member in the layer-0 mask costs nothing": layer 0's lowest bit is handed out
 unfoldable pub handed : Cursor → Cursor

@@ -1,15 +1,14 @@
 // The walk of one store: the Rust's iter/mod.rs, `BitIter`, as a cursor by value whose calls hand it back.
-ghost use mathlib.Core.Bool.{true, _&&_};
+ghost use mathlib.Core.Bool.{true};
 ghost use mathlib.Core.List.{[], _∷_};
 ghost use mathlib.Core.Path.{_≡_};
-ghost use Prim.Native.Nat.{ℕ, _+_, _-_, _%_, _≤_, _<_};
-ghost use lib.Count.{trailingZeros};
-ghost use lib.Dec.{eqb, ltb};
-ghost use lib.ListN.{length, getD};
+ghost use Prim.Native.Nat.{ℕ, _+_, _-_, _%_, _<_};
+ghost use lib.ListN.{getD};
 ghost use Rattle.util.specs.Outcome.{Settled};
-ghost use Rattle.iter.specs.Calls.{stepPaper, startOf, nextOf, startedOf, prefixesFit, fits, Fine};
+ghost use Rattle.iter.specs.Calls.{stepPaper, startOf, nextOf, fits, Fine};
 ghost use Rattle.iter.specs.Steps.{refusalOf, parts, isReading, Lowers, Sinks, Finishes};
 ghost use Rattle.iter.specs.Walk.{lowLayer, kind, firstBit, placeAt, handed, handled, startAt, next};
+pub use prefixes::are_prefixes;
 
 // Layer k's mask and prefix stand at place k; the top layer has no prefix.
 pub struct Cursor {
@@ -32,29 +31,6 @@ pub struct Step {
     pub answer: Next,
 }
 
-// Whether a number is a prefix below a bound.
-fn is_prefix(p: u64, bound: u64) -> bool
-    ensures { λ r. ⌜ r ≡ (eqb (p % 64) 0 && ltb p bound) ⌝ }
-{
-    if p % 64 != 0 {
-        return false;
-    }
-    p < bound
-}
-
-// Whether three numbers are the prefixes of a cursor, of the layers 0, 1 and 2.
-pub fn are_prefixes(p0: u64, p1: u64, p2: u64) -> bool
-    ensures { λ r. ⌜ r ≡ prefixesFit 3 (p0 ∷ p1 ∷ p2 ∷ []) 3 ⌝ }
-{
-    if !is_prefix(p0, 16777216) {
-        return false;
-    }
-    if !is_prefix(p1, 262144) {
-        return false;
-    }
-    is_prefix(p2, 4096)
-}
-
 // A cursor, and the words that were read on the way to it.
 pub struct Sunk {
     pub cursor: Cursor,
@@ -71,50 +47,39 @@ fn above(top: u64) -> Cursor
     }
 }
 
-// Where the lowest bit of a mask stands behind a prefix.
-fn behind(p: u32, m: u64) -> usize
-    ensures { λ r. ⌜ (r ≡ p + trailingZeros 64 m) × (0 < m → trailingZeros 64 m < 64) ⌝ }
-{
-    p as usize + u64::trailing_zeros(m) as usize
-}
-
 impl Cursor {
     // Where the lowest bit of layer k's mask stands in its layer; the top layer has no prefix. Layers count modulo 4.
     pub fn place(self, k: usize) -> usize
         ensures { λ r. ⌜ (r ≡ placeAt 3 self (k % 4)) × (0 < getD (self .masks) (k % 4) 0 → firstBit self (k % 4) < 64) ⌝ }
     {
         let masks = self.masks;
-        let j = k % 4;
-        if j == 3 {
-            return behind(0, masks[j]);
-        }
         let prefix = self.prefix;
-        behind(prefix[j], masks[j])
+        levels::place(masks, prefix, k)
     }
 
     // The cursor once layer 0's lowest bit is handed out.
     pub fn hand(self) -> Cursor
         ensures { λ r. ⌜ r ≡ handed self ⌝ }
     {
-        let mut c = self;
-        let m = c.masks[0];
-        c.masks[0] = util::drop_lowest(m);
-        c
+        let masks = self.masks;
+        let prefix = self.prefix;
+        Cursor {
+            masks: levels::without(masks, 0),
+            prefix,
+        }
     }
 
     // The lowest bit of the layer above layer j is taken, and the word below it, of layer j, is in hand. Layers count modulo 3.
     pub fn handle_level(self, j: usize, word: u64) -> Cursor
         ensures { λ r. ⌜ r ≡ handled (j % 3) word self ⌝ }
     {
-        let low = j % 3;
-        let k = low + 1;
-        let q = self.place(k) % 67108864;
-        let mut c = self;
-        let m = c.masks[k];
-        c.masks[k] = util::drop_lowest(m);
-        c.masks[low] = word;
-        c.prefix[low] = (q * 64) as u32;
-        c
+        let masks = self.masks;
+        let prefix = self.prefix;
+        let q = levels::place(masks, prefix, j % 3 + 1);
+        Cursor {
+            masks: levels::taken(masks, j, word),
+            prefix: levels::under(prefix, j, q),
+        }
     }
 
     // The word below the lowest bit of the layer above layer j is read.
@@ -131,16 +96,7 @@ impl Cursor {
         ensures { λ r. ⌜ r ≡ isReading (kind 3 self) ⌝ }
     {
         let masks = self.masks;
-        if masks[0] != 0 {
-            return false;
-        }
-        if masks[1] != 0 {
-            return true;
-        }
-        if masks[2] != 0 {
-            return true;
-        }
-        masks[3] != 0
+        levels::wants(masks)
     }
 
     // One word is read. Each layer has a way of its own, so that the masks stay in registers.
@@ -189,15 +145,8 @@ impl Cursor {
     pub fn refusal(self, n: usize) -> u32
         ensures { λ r. ⌜ r ≡ refusalOf n (fits 3 self) ⌝ }
     {
-        if n == 0 {
-            return 2;
-        }
-        let p = self.prefix;
-        if are_prefixes(p[0] as u64, p[1] as u64, p[2] as u64) {
-            0
-        } else {
-            7
-        }
+        let prefix = self.prefix;
+        prefixes::refusal(n, prefix)
     }
 
     // What next answers where no word is read any more, after so many reads. An id has 32 bits.
@@ -253,12 +202,4 @@ impl Cursor {
             budget,
         )
     }
-}
-
-// The cursor of a walk that is started, for a caller with none: zeros where the slice is no store.
-pub fn started(store: &[u64]) -> Cursor
-    ensures { λ r. ⌜ r ≡ startedOf (now (store .entry)) ⌝ }
-{
-    let s = above(0).start(store);
-    s.cursor
 }

@@ -11,7 +11,7 @@ use Rattle.store.specs.Layout.{isStore}
 use Rattle.store.specs.Word.{Words64}
 use Rattle.fill.specs.declared.Batch.{Batch}
 use Rattle.iter.specs.declared.Cursor.{Cursor}
-use Rattle.iter.specs.Calls.{startedOf}
+use Rattle.starts.specs.Calls.{startedOf}
 use Rattle.text.specs.Out.{Held, held, putOf, putAllOf, decimalOf}
 use Rattle.text.proofs.Out.{put-append, put-behind, put-front}
 use Rattle.batches.specs.Steps.{walked, goesOn}

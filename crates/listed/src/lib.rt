@@ -34,7 +34,7 @@ fn put_walked(buf: &mut [u8], at: usize, store: &[u64]) -> usize
     ensures { λ r. ⌜ held (now (buf .exit)) r ≡ putAllOf (now (buf .entry)) at (idsOf (walked (now (store .entry)))) ⌝ }
 {
     let mut ids = [0u32; 64];
-    let mut c = iter::started(store);
+    let mut c = starts::started(store);
     let mut a = at;
     loop {
         let b = fill::fill(c, store, batches::BUDGET, &mut ids);

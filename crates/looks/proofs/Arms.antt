@@ -7,7 +7,7 @@ use borrow.Author.Tests.{lt-ltb, le-ltb, ne-eqb}
 use lib.ListN.{length, getD}
 use Rattle.layers.specs.Calls.{wordOf, layerPart}
 use Rattle.desk.specs.Slots.{numberOf, partOf}
-use Rattle.desk.specs.Digest.{digestOf}
+use Rattle.digests.specs.Digest.{digestOf}
 use Rattle.said.specs.Numbers.{oneOf, unknown, saidOf}
 use Rattle.looks.specs.Calls.{peek, digest, word, layer, peekOf, measuredOf, layerOf, ask1Of, ask2Of, ask3Of, askOf}
 

@@ -8,7 +8,7 @@ use lib.Dec.{eqb, ltb}
 use lib.ListN.{length, getD}
 use Rattle.layers.specs.Calls.{wordOf, layerPart}
 use Rattle.desk.specs.Slots.{numberOf, isSlot, partOf}
-use Rattle.desk.specs.Digest.{digestOf}
+use Rattle.digests.specs.Digest.{digestOf}
 use Rattle.said.specs.Numbers.{oneOf, twoOf, unknown, saidOf}
 use Rattle.said.specs.declared.Said.{Said}
 

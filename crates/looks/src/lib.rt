@@ -29,7 +29,7 @@ fn measured(layer: &[u64]) -> Said
     Said {
         count: 2,
         a: layer.len() as u64,
-        b: desk::digest(layer),
+        b: digests::digest(layer),
         c: 0,
     }
 }
@@ -51,7 +51,7 @@ fn ask1(part: &[u64], word: u64) -> Said
     ensures { λ r. ⌜ r ≡ ask1Of (now (part .entry)) word ⌝ }
 {
     if word == DIGEST {
-        return said::one(desk::digest(part));
+        return said::one(digests::digest(part));
     }
     said::unknown()
 }

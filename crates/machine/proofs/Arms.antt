@@ -1,25 +1,25 @@
 -- What each arm of the code makes, and one turn of the loop over the codes.
 use mathlib.Core.Bool.{Bool, true, false, _&&_}
 use mathlib.Core.List.{List, [], _∷_}
-use mathlib.Core.Logic.{_≢_, _⊎_, ⊎-elim}
+use mathlib.Core.Logic.{_≢_, _⊎_}
 use mathlib.Core.Path.{_≡_, refl, sym, ap, ap₂, _∙_}
 use Prim.Native.Nat.{ℕ, zero, suc, _+_, _%_, _≤_, _<_}
 use native.Mathlib.Decide.{ℕ-discrete}
 use native.Mathlib.Numerals.{add-one}
 use native.Mathlib.Omega.{arith}
 use borrow.Author.Tests.{lt-ltb, le-leb, eq-eqb, leb-true, ltb-true, eqb-true}
-use lib.Bits.{bitAnd, bitOr, bitXor}
+use lib.Bits.{bitAnd}
 use lib.Dec.{leb, ltb, eqb}
 use lib.ListN.{length, getD, set, drop, drop-of-length-le, length-set}
 use lib.Seq.{drop-cons, getD-set-same, getD-set-other}
 use Rattle.util.specs.Word.{flip}
 use Rattle.util.proofs.Same.{both}
-use Rattle.codes.specs.Tree.{xorIn, notIn}
+use Rattle.codes.specs.Tree.{joined, notIn}
 use Rattle.codes.specs.Codes.{kindOf}
 use Rattle.codes.proofs.Turns.{kind-store, kind-unknown}
 use Rattle.machine.specs.declared.Turn.{Turn}
 use Rattle.machine.specs.Machine.{Stack, made, moves, stepped, evaluated, begun}
-use Rattle.machine.specs.Steps.{Joins, Turned, Going, isPair, Pair}
+use Rattle.machine.specs.Steps.{JoinsTwo, Joins, Turned, Going}
 
 -- ---- what a code makes
 
@@ -28,17 +28,15 @@ module _ (c w k cut a b : ℕ) where
   unfolding made
   made-store h = sym (rw (kind-store c h))
 
-  pub made-and : c ≡ 16 → bitAnd a b ≡ made (kindOf c) w k cut a b
-  unfolding made kindOf
-  made-and e = sym (rw e)
-
-  pub made-or : c ≡ 17 → bitOr a b ≡ made (kindOf c) w k cut a b
-  unfolding made kindOf
-  made-or e = sym (rw e)
-
-  pub made-xor : c ≡ 18 → k ≡ 0 → bitXor a b ≡ made (kindOf c) w k cut a b
-  unfolding made kindOf xorIn
-  made-xor e z = sym (rw (e, z))
+  -- a code that joins two looks at nothing else
+  pub made-joined : {r : ℕ} → 16 ≤ c → c < 19 → r ≡ joined c k a b → r ≡ made (kindOf c) w k cut a b
+  unfolding made kindOf joined
+  made-joined h l r = r ∙ go (ℕ-discrete c 16) (ℕ-discrete c 17)
+    where
+      go : Dec (c ≡ 16) → Dec (c ≡ 17) → joined c k a b ≡ made (kindOf c) w k cut a b
+      go (yes e) d = rw e
+      go (no n) (yes e) = rw e
+      go (no n) (no o) = let e : c ≡ 18 = omega arith in rw e
 
   pub made-all : c ≡ 20 → cut ≡ made (kindOf c) w k cut a b
   unfolding made kindOf
@@ -48,16 +46,11 @@ module _ (c w k cut a b : ℕ) where
   unfolding made kindOf notIn
   made-not e z = sym (rw (e, z))
 
-  pub made-last : 4 ≤ c → c ≢ 16 → c ≢ 17 → c ≢ 18 → c ≢ 19 → c ≢ 20 → b ≡ made (kindOf c) w k cut a b
+  pub made-last : 4 ≤ c → (c < 16) ⊎ (19 ≤ c) → c ≢ 19 → c ≢ 20 → b ≡ made (kindOf c) w k cut a b
   unfolding made
-  made-last h n16 n17 n18 n19 n20 = sym (rw (kind-unknown c h n16 n17 n18 n19 n20))
+  made-last h o n19 n20 = sym (rw (kind-unknown c h o n19 n20))
 
--- xor and not above layer 0
-pub made-xor-above : (c w k cut a b : ℕ) → c ≡ 18 → k ≢ 0 → bitOr a b ≡ made (kindOf c) w k cut a b
-unfolding made kindOf xorIn
-made-xor-above c w zero cut a b e n = absurd (n refl)
-made-xor-above c w (suc k) cut a b e n = sym (rw e)
-
+-- not above layer 0
 pub made-not-above : (c w k cut a b : ℕ) → c ≡ 19 → k ≢ 0 → cut ≡ made (kindOf c) w k cut a b
 unfolding made kindOf notIn
 made-not-above c w zero cut a b e n = absurd (n refl)
@@ -85,13 +78,11 @@ module _ (c : ℕ) where
 
   pub moves-not : 4 ≤ c → (c < 16) ⊎ (19 ≤ c) → c ≢ 20 → (0 ≡ moves (kindOf c)) × (0 ≤ 7)
   unfolding moves kindOf
-  moves-not h o n20 =
-      let out : (n : ℕ) → 16 ≤ n → n < 19 → c ≢ n = λ n a b e. ⊎-elim (λ (l : c < 16). omega arith) (λ (l : 19 ≤ c). omega arith) o in
-      (go out (ℕ-discrete c 19), omega arith)
+  moves-not h o n20 = (go (ℕ-discrete c 19), omega arith)
     where
-      go : ((n : ℕ) → 16 ≤ n → n < 19 → c ≢ n) → Dec (c ≡ 19) → 0 ≡ moves (kindOf c)
-      go out (yes e) = sym (rw e)
-      go out (no n19) = sym (rw (kind-unknown c h (out 16 (omega arith) (omega arith)) (out 17 (omega arith) (omega arith)) (out 18 (omega arith) (omega arith)) n19 n20))
+      go : Dec (c ≡ 19) → 0 ≡ moves (kindOf c)
+      go (yes e) = sym (rw e)
+      go (no n19) = sym (rw (kind-unknown c h o n19 n20))
 
 -- ---- turns
 
@@ -123,16 +114,17 @@ unfolding stepped made moves
 store-step k cut ws v c d b h = rw (kind-store c h)
 
 -- a code that joins the values x and y, which was put last
-join-step : (k cut : ℕ) (ws v : List ℕ) (c d x y : ℕ) → 16 ≤ c → c < 19 → getD (set v d y) ((d + 7) % 8) 0 ≡ x
-    → stepped k cut ws c (record { words = v; place = d; last = y }) ≡ record { words = set v d y; place = (d + 7) % 8; last = made (kindOf c) (getD ws c 0) k cut x y }
+join-step : (k cut : ℕ) (ws v : List ℕ) (c d x y : ℕ) {r : ℕ} → 16 ≤ c → c < 19 → getD (set v d y) ((d + 7) % 8) 0 ≡ x → r ≡ joined c k x y
+    → stepped k cut ws c (record { words = v; place = d; last = y }) ≡ record { words = set v d y; place = (d + 7) % 8; last = r }
 unfolding stepped
-join-step k cut ws v c d x y h l e =
+join-step k cut ws v c d x y h l e er =
     ap₂ (λ (m z : ℕ). record { words = set v d y; place = (d + m) % 8; last = made (kindOf c) (getD ws c 0) k cut z y }) (sym (moves-back c h l .0)) e
+    ∙ ap (λ (z : ℕ). record { words = set v d y; place = (d + 7) % 8; last = z }) (sym (made-joined c (getD ws c 0) k cut x y h l er))
 
 -- three codes that join two stores
 module _ (k cut : ℕ) (ws cs v : List ℕ) (d b j : ℕ) (p : Joins cs j) (long : length v ≡ 8) (h : d < 8) where
   pub turned-three : (x y r : ℕ) → x ≡ getD ws (getD cs j 0) 0 → y ≡ getD ws (getD cs (j + 1) 0) 0
-      → r ≡ made (kindOf (getD cs (j + 2) 0)) (getD ws (getD cs (j + 2) 0) 0) k cut x y
+      → r ≡ joined (getD cs (j + 2) 0) k x y
       → Turned k cut ws cs j v d b (set (set (set v d b) ((d + 1) % 8) x) ((d + 2) % 8) y) (record { last = r; place = (d + 1) % 8; next = j + 3 })
   turned-three x y r ex ey er =
       let v₁ = set v d b in
@@ -148,7 +140,7 @@ module _ (k cut : ℕ) (ws cs v : List ℕ) (d b j : ℕ) (p : Joins cs j) (long
       let s₂ : stepped k cut ws (getD cs (j + 1) 0) (record { words = v₁; place = (d + 1) % 8; last = x }) ≡ record { words = v₂; place = (d + 2) % 8; last = y } =
       store-step k cut ws v₁ (getD cs (j + 1) 0) ((d + 1) % 8) x (p .second) ∙ ap₂ (λ (m n : ℕ). record { words = v₂; place = m; last = n }) q (sym ey) in
       let s₃ : stepped k cut ws (getD cs (j + 2) 0) (record { words = v₂; place = (d + 2) % 8; last = y }) ≡ record { words = v₃; place = (d + 1) % 8; last = r } =
-      join-step k cut ws v₂ (getD cs (j + 2) 0) ((d + 2) % 8) x y (p .joins) (p .known) under ∙ ap₂ (λ (m n : ℕ). record { words = v₃; place = m; last = n }) z (sym er) in
+      join-step k cut ws v₂ (getD cs (j + 2) 0) ((d + 2) % 8) x y (p .third .joins) (p .third .known) under er ∙ ap₂ (λ (m n : ℕ). record { words = v₃; place = m; last = n }) z refl in
       let e₁ : suc j ≡ j + 1 = omega arith in
       let e₂ : suc (j + 1) ≡ j + 2 = omega arith in
       let e₃ : suc (j + 2) ≡ j + 3 = omega arith in
@@ -156,13 +148,43 @@ module _ (k cut : ℕ) (ws cs v : List ℕ) (d b j : ℕ) (p : Joins cs j) (long
         inside = omega arith;
         long = length-set v₂ ((d + 2) % 8) y ∙ length-set v₁ ((d + 1) % 8) x ∙ length-set v d b;
         on = omega arith;
-        within = omega (arith, p .there);
+        within = omega (arith, p .third .there);
         same = sym (ap₂ (λ (n : ℕ) (s : Stack). evaluated k cut ws (drop n cs) s) e₃ s₃)
-            ∙ one-code k cut ws cs v₂ ((d + 2) % 8) y (j + 2) (p .there)
+            ∙ one-code k cut ws cs v₂ ((d + 2) % 8) y (j + 2) (p .third .there)
             ∙ sym (ap₂ (λ (n : ℕ) (s : Stack). evaluated k cut ws (drop n cs) s) e₂ s₂)
-            ∙ one-code k cut ws cs v₁ ((d + 1) % 8) x (j + 1) (omega (arith, p .there))
+            ∙ one-code k cut ws cs v₁ ((d + 1) % 8) x (j + 1) (omega (arith, p .third .there))
             ∙ sym (ap₂ (λ (n : ℕ) (s : Stack). evaluated k cut ws (drop n cs) s) e₁ s₁)
-            ∙ one-code k cut ws cs v d b j (omega (arith, p .there));
+            ∙ one-code k cut ws cs v d b j (omega (arith, p .third .there));
+      }
+
+  -- and a fourth that joins what waits with them
+  pub turned-four : (x y z r : ℕ) → JoinsTwo cs (j + 3) → x ≡ getD ws (getD cs j 0) 0 → y ≡ getD ws (getD cs (j + 1) 0) 0
+      → z ≡ joined (getD cs (j + 2) 0) k x y → r ≡ joined (getD cs (j + 3) 0) k b z
+      → Turned k cut ws cs j v d b (set (set (set (set v d b) ((d + 1) % 8) x) ((d + 2) % 8) y) ((d + 1) % 8) z) (record { last = r; place = d; next = j + 4 })
+  turned-four x y z r q ex ey ez er =
+      let t = turned-three x y z ex ey ez in
+      let v₁ = set v d b in
+      let v₂ = set v₁ ((d + 1) % 8) x in
+      let v₃ = set v₂ ((d + 2) % 8) y in
+      let f : ((d + 1) % 8 + 7) % 8 ≡ d = omega arith in
+      let under : getD (set v₃ ((d + 1) % 8) z) (((d + 1) % 8 + 7) % 8) 0 ≡ b =
+      ap (λ (n : ℕ). getD (set v₃ ((d + 1) % 8) z) n 0) f
+      ∙ getD-set-other v₃ ((d + 1) % 8) d z 0 (λ (e : d ≡ (d + 1) % 8). omega arith)
+      ∙ getD-set-other v₂ ((d + 2) % 8) d y 0 (λ (e : d ≡ (d + 2) % 8). omega arith)
+      ∙ getD-set-other v₁ ((d + 1) % 8) d x 0 (λ (e : d ≡ (d + 1) % 8). omega arith)
+      ∙ getD-set-same v d b 0 (omega arith) in
+      let s₄ : stepped k cut ws (getD cs (j + 3) 0) (record { words = v₃; place = (d + 1) % 8; last = z }) ≡ record { words = set v₃ ((d + 1) % 8) z; place = d; last = r } =
+      join-step k cut ws v₃ (getD cs (j + 3) 0) ((d + 1) % 8) b z (q .joins) (q .known) under er
+      ∙ ap (λ (m : ℕ). record { words = set v₃ ((d + 1) % 8) z; place = m; last = r }) f in
+      let e₄ : suc (j + 3) ≡ j + 4 = omega arith in
+      record {
+        inside = h;
+        long = length-set v₃ ((d + 1) % 8) z ∙ t .long;
+        on = omega arith;
+        within = omega (arith, q .there);
+        same = sym (ap₂ (λ (n : ℕ) (s : Stack). evaluated k cut ws (drop n cs) s) e₄ s₄)
+            ∙ one-code k cut ws cs v₃ ((d + 1) % 8) z (j + 3) (q .there)
+            ∙ t .same;
       }
 
 -- ---- the loop
@@ -181,40 +203,6 @@ module _ {k cut : ℕ} {ws cs v : List ℕ} {d b j : ℕ} (g : Going k cut ws cs
   pub all-done : length cs ≤ j → b ≡ evaluated k cut ws cs begun
   unfolding evaluated
   all-done h = sym (ap (λ (l : List ℕ). evaluated k cut ws l (record { words = v; place = d; last = b })) (drop-of-length-le cs h)) ∙ g .same
-
--- ---- two stores and a third code
-
-module _ (cs : List ℕ) where
-  -- the codes that pass the test are a pair, and no others are
-  pub pair-of : isPair cs ≡ true → Pair cs
-  unfolding isPair
-  pair-of e =
-      let known = ltb (getD cs 2 0) 19 in
-      let third = leb 16 (getD cs 2 0) && known in
-      let second = ltb (getD cs 1 0) 4 && third in
-      let a = both (eqb (length cs) 3) (ltb (getD cs 0 0) 4 && second) e in
-      let b = both (ltb (getD cs 0 0) 4) second (a .1) in
-      let c = both (ltb (getD cs 1 0) 4) third (b .1) in
-      let d = both (leb 16 (getD cs 2 0)) known (c .1) in
-      record {
-        three = eqb-true (length cs) 3 (a .0);
-        first = ltb-true (getD cs 0 0) 4 (b .0);
-        second = ltb-true (getD cs 1 0) 4 (c .0);
-        joins = leb-true 16 (getD cs 2 0) (d .0);
-        known = ltb-true (getD cs 2 0) 19 (d .1);
-      }
-
-  pub no-pair : (Pair cs → ⊥) → false ≡ isPair cs
-  no-pair h = go (isPair cs) refl
-    where
-      go : (x : Bool) → isPair cs ≡ x → false ≡ isPair cs
-      go true e = absurd (h (pair-of e))
-      go false e = sym e
-
-  -- the last test decides
-  pub pair-last : length cs ≡ 3 → getD cs 0 0 < 4 → getD cs 1 0 < 4 → 16 ≤ getD cs 2 0 → ltb (getD cs 2 0) 19 ≡ isPair cs
-  unfolding isPair
-  pair-last n a b c = sym (rw (eq-eqb (length cs) 3 n, lt-ltb (getD cs 0 0) 4 a, lt-ltb (getD cs 1 0) 4 b, le-leb 16 (getD cs 2 0) c))
 
 pub three : (cs : List ℕ) → length cs ≡ 3 → cs ≡ getD cs 0 0 ∷ getD cs 1 0 ∷ getD cs 2 0 ∷ []
 three [] h = absurd (omega arith)

@@ -1,4 +1,4 @@
-pub mod Spots
 pub mod Arms
 pub mod Held
+pub mod Uncut
 pub mod Words

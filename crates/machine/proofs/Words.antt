@@ -13,18 +13,33 @@ use Rattle.store.proofs.Ends.{end-is}
 use Rattle.store.proofs.Geometry.{end-step}
 use Rattle.store.proofs.Words.{word-in, word-out}
 use Rattle.codes.specs.Tree.{existing, four, nth, treeWord}
-use Rattle.codes.specs.Codes.{kindOf, treeOf}
+use Rattle.codes.specs.Codes.{treeOf, cutsIn}
 use Rattle.codes.proofs.Accepted.{Accepted, formula-one}
-use Rattle.machine.specs.Machine.{wordsIn, placesIn, placeOf, made, evaluated, begun, machineWord}
-use Rattle.machine.specs.Steps.{Pair}
+use Rattle.spots.specs.Spots.{wordsIn, placesIn, placeOf}
+use Rattle.machine.specs.Machine.{evaluated, begun, wordAt, machineWord}
+use Rattle.machine.proofs.Uncut.{uncut}
 use Rattle.machine.proofs.Held.{leaves-value}
 
-module _ (a b c d cs : List ℕ) (N layer i : ℕ) where
-  pub word-is : {at p cut w0 w1 w2 w3 r : ℕ} → at ≡ placeOf N (layer % 4) i → p ≡ placesIn N (layer % 4) → cut ≡ existing p i
-      → w0 ≡ getD a at 0 → w1 ≡ getD b at 0 → w2 ≡ getD c at 0 → w3 ≡ getD d at 0
-      → r ≡ evaluated (layer % 4) cut (w0 ∷ w1 ∷ w2 ∷ w3 ∷ []) cs begun → r ≡ machineWord N (four a b c d) cs layer i
-  unfolding machineWord
-  word-is at p cut e0 e1 e2 e3 r = r ∙ rw (e0, e1, e2, e3, cut, p, at)
+module _ (a b c d cs : List ℕ) where
+  -- the word that the slices' words at a place make
+  pub word-at-is : (k cut at : ℕ) {w0 w1 w2 w3 r : ℕ} → w0 ≡ getD a at 0 → w1 ≡ getD b at 0 → w2 ≡ getD c at 0 → w3 ≡ getD d at 0
+      → r ≡ evaluated k cut (w0 ∷ w1 ∷ w2 ∷ w3 ∷ []) cs begun → r ≡ wordAt (four a b c d) cs k cut at
+  unfolding wordAt
+  word-at-is k cut at e0 e1 e2 e3 r = r ∙ rw (e0, e1, e2, e3)
+
+  module _ (N layer i : ℕ) where
+    pub word-is : {at cut r : ℕ} → at ≡ placeOf N (layer % 4) i → cut ≡ existing (placesIn N (layer % 4)) i
+        → r ≡ wordAt (four a b c d) cs (layer % 4) cut at → r ≡ machineWord N (four a b c d) cs layer i
+    unfolding machineWord
+    word-is at cut r = r ∙ ap₂ (wordAt (four a b c d) cs (layer % 4)) cut at
+
+    -- the bits that exist are looked up only where some code looks at them
+    pub word-cut-is : {at cut r : ℕ} {x : Bool} → at ≡ placeOf N (layer % 4) i → x ≡ cutsIn cs → cut ≡ cond x (existing (placesIn N (layer % 4)) i) 0
+        → r ≡ wordAt (four a b c d) cs (layer % 4) cut at → r ≡ machineWord N (four a b c d) cs layer i
+    unfolding wordAt
+    word-cut-is {at} {cut} {x = true} e x-is cut-is r = word-is e cut-is r
+    word-cut-is {at} {cut} {x = false} e x-is cut-is r =
+        word-is e refl (r ∙ uncut (layer % 4) cut (existing (placesIn N (layer % 4)) i) (map (λ s. getD s at 0) (four a b c d)) cs begun (sym x-is))
 
 -- a word of each of a list of slices, and of one by its number
 each : (f : List ℕ → ℕ) (ss : List (List ℕ)) (c : ℕ) → f [] ≡ 0 → getD (map f ss) c 0 ≡ f (nth ss c)
@@ -58,7 +73,7 @@ places-are N (suc k) some most low = words-are N k some most (omega arith)
 -- THE WORD of a formula over stores of capacity N is the tree's.
 pub machine-tree : (a b c d cs : List ℕ) (k i : ℕ) → Accepted a b c d cs → k ≤ top (cap a)
     → machineWord (cap a) (four a b c d) cs k i ≡ treeWord (cap a) (four a b c d) (treeOf cs) k i
-unfolding machineWord treeWord treeOf top
+unfolding machineWord wordAt treeWord treeOf top
 machine-tree a b c d cs k i g low =
     let N = cap a in
     let ss = four a b c d in

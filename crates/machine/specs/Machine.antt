@@ -1,29 +1,13 @@
 -- The word of a formula as it is computed: the codes one after another, on a stack of eight places. For every list of codes and every
 -- number; for a formula over stores of capacity N it is the tree's word.
-use mathlib.Core.Bool.{cond}
 use mathlib.Core.List.{List, [], _∷_, map}
-use Prim.Native.Nat.{ℕ, zero, suc, _+_, _-_, _%_}
+use Prim.Native.Nat.{ℕ, _+_, _%_}
 use lib.Bits.{bitAnd, bitOr}
-use lib.Dec.{ltb}
 use lib.ListN.{getD, set, replicate}
-use Rattle.store.specs.Layout.{endOf}
 use Rattle.codes.specs.Tree.{existing, xorIn, notIn}
 use Rattle.codes.specs.Codes.{Kind, kindOf}
 use Rattle.codes.specs.Codes.Kind.{isStore, isBoth, isEither, isOneOf, isInverse, isEvery, isUnknown}
-
--- ---- where the words stand
-
--- the words of layer k, and the places that it has: ids, or the words of the layer below
-unfoldable pub wordsIn : ℕ → ℕ → ℕ
-wordsIn N k = endOf N k - endOf N (suc k)
-
-unfoldable pub placesIn : ℕ → ℕ → ℕ
-placesIn N zero = N
-placesIn N (suc k) = wordsIn N k
-
--- where word i of layer k stands in a store; past the layer's end, where the store ends
-unfoldable pub placeOf : ℕ → ℕ → ℕ → ℕ
-placeOf N k i = cond (ltb i (wordsIn N k)) (endOf N (suc k) + i) (endOf N 0)
+use Rattle.spots.specs.Spots.{placesIn, placeOf}
 
 -- ---- one code
 
@@ -72,8 +56,12 @@ evaluated k cut ws (c ∷ cs) s = evaluated k cut ws cs (stepped k cut ws c s)
 abbrev pub begun : Stack
 begun = record { words = replicate 8 0; place = 0; last = 0 }
 
+-- the word of layer k that the slices' words at one place make, where the bits that exist are cut
+unfoldable pub wordAt : List (List ℕ) → List ℕ → ℕ → ℕ → ℕ → ℕ
+wordAt ss cs k cut at = evaluated k cut (map (λ s. getD s at 0) ss) cs begun
+
 -- word i of a layer; the layer's number counts modulo 4
 unfoldable pub machineWord : ℕ → List (List ℕ) → List ℕ → ℕ → ℕ → ℕ
 machineWord N ss cs layer i =
     let k = layer % 4 in
-    evaluated k (existing (placesIn N k) i) (map (λ s. getD s (placeOf N k i) 0) ss) cs begun
+    wordAt ss cs k (existing (placesIn N k) i) (placeOf N k i)

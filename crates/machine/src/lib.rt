@@ -2,54 +2,12 @@
 // `BitSetAll` of ops.rs.
 ghost use mathlib.Core.Bool.{true};
 ghost use mathlib.Core.Path.{_≡_};
-ghost use Prim.Native.Nat.{suc, _≤_, _<_};
+ghost use Prim.Native.Nat.{_%_, _≤_, _<_};
 ghost use lib.ListN.{length, getD};
-ghost use Rattle.codes.specs.Tree.{existing, four, nth};
+ghost use Rattle.codes.specs.Tree.{four};
 ghost use Rattle.codes.specs.Codes.{kindOf};
-ghost use Rattle.machine.specs.Steps.{Joins, Turned, isPair};
-ghost use Rattle.machine.specs.Machine.{wordsIn, placesIn, placeOf, made, moves, evaluated, begun, machineWord};
-
-// The words of layer k.
-fn words_in(n: usize, k: usize) -> usize
-    requires { ⌜ k < 4 ⌝ }
-    ensures { λ r. ⌜ r ≡ wordsIn n k ⌝ }
-{
-    store::end(n, k) - store::end(n, k + 1)
-}
-
-// Where word i of layer k stands in a store of capacity n; past the layer's end, where the store ends.
-fn place(n: usize, k: usize, i: usize) -> usize
-    requires { ⌜ k < 4 ⌝ }
-    ensures { λ r. ⌜ r ≡ placeOf n k i ⌝ }
-{
-    if i < words_in(n, k) {
-        store::end(n, k + 1) + i
-    } else {
-        store::end(n, 0)
-    }
-}
-
-// The places of layer k.
-fn places(n: usize, k: usize) -> usize
-    requires { ⌜ k < 4 ⌝ }
-    ensures { λ r. ⌜ r ≡ placesIn n k ⌝ }
-{
-    if k == 0 { n } else { words_in(n, k - 1) }
-}
-
-// The bits of word i that exist in a layer of so many places.
-fn existing(places: usize, i: usize) -> u64
-    ensures { λ r. ⌜ r ≡ existing places i ⌝ }
-{
-    let whole = places / 64;
-    if i < whole {
-        return 18446744073709551615;
-    }
-    if whole < i {
-        return 0;
-    }
-    (1u64 << (places % 64)) - 1
-}
+ghost use Rattle.machine.specs.Steps.{JoinsTwo, Joins, Turned};
+ghost use Rattle.machine.specs.Machine.{made, moves, evaluated, begun, wordAt, machineWord};
 
 // What a code makes of the last two values in layer k, where the bits that exist are `cut` and the stores' words are `words`.
 fn made(code: u8, k: usize, cut: u64, words: &[u64; 4], a: u64, b: u64) -> u64
@@ -60,14 +18,7 @@ fn made(code: u8, k: usize, cut: u64, words: &[u64; 4], a: u64, b: u64) -> u64
             let i = code as usize;
             words[i]
         }
-        16 => a & b,
-        17 => a | b,
-        18 => {
-            if k == 0 {
-                return a ^ b;
-            }
-            a | b
-        }
+        16..=18 => codes::joined(code, k, a, b),
         19 => {
             if k == 0 {
                 return cut & !b;
@@ -122,27 +73,35 @@ fn one(
     }
 }
 
+// Whether code j joins two values.
+fn joins_two(codes: &[u8], j: usize) -> bool
+    ensures { λ r. ⌜ (r ≡ true → JoinsTwo (now (codes .entry)) j) ⌝ }
+{
+    if codes.len() <= j {
+        return false;
+    }
+    if codes[j] < 16 {
+        return false;
+    }
+    codes[j] < 19
+}
+
 // Whether the codes from code j on begin with two stores and what joins them.
 fn joins(codes: &[u8], j: usize) -> bool
     requires { ⌜ j < length (now codes) ⌝ }
     ensures { λ r. ⌜ (r ≡ true → Joins (now (codes .entry)) j) ⌝ }
 {
-    if codes.len() - j < 3 {
-        return false;
-    }
     if 3 < codes[j] {
         return false;
     }
-    if 3 < codes[j + 1] {
-        return false;
+    if joins_two(codes, j + 2) {
+        return codes[j + 1] < 4;
     }
-    if codes[j + 2] < 16 {
-        return false;
-    }
-    codes[j + 2] < 19
+    false
 }
 
-// Three codes at a time, where two stores are joined: no value waits for the stack, which is left as the codes leave it one by one.
+// Three codes at a time, where two stores are joined, and a fourth that joins what waits with them: no value waits for the stack, which is
+// left as the codes leave it one by one.
 fn three(
     codes: &[u8],
     j: usize,
@@ -160,12 +119,23 @@ fn three(
     let y = codes[j + 1] as usize;
     let a = words[x];
     let b = words[y];
+    let e = (d + 1) % 8;
+    let f = (d + 2) % 8;
     stack[d] = last;
-    stack[(d + 1) % 8] = a;
-    stack[(d + 2) % 8] = b;
+    stack[e] = a;
+    stack[f] = b;
+    let v = codes::joined(codes[j + 2], k, a, b);
+    if joins_two(codes, j + 3) {
+        stack[e] = v;
+        return Turn {
+            last: codes::joined(codes[j + 3], k, last, v),
+            place: d,
+            next: j + 4,
+        };
+    }
     Turn {
-        last: made(codes[j + 2], k, cut, words, a, b),
-        place: (d + 1) % 8,
+        last: v,
+        place: e,
         next: j + 3,
     }
 }
@@ -207,23 +177,26 @@ fn evaluate(codes: &[u8], k: usize, cut: u64, words: &[u64; 4]) -> u64
     last
 }
 
-// Whether the codes are two stores and what joins them, the commonest formula: it needs no stack.
-pub fn is_pair(codes: &[u8]) -> bool
-    ensures { λ r. ⌜ r ≡ isPair (now (codes .entry)) ⌝ }
+// A layer's word of a formula over four slices, made of their words at one place, where the bits that exist are `cut`.
+pub fn word_at(
+    codes: &[u8],
+    layer: usize,
+    cut: u64,
+    at: usize,
+    s0: &[u64],
+    s1: &[u64],
+    s2: &[u64],
+    s3: &[u64],
+) -> u64
+    ensures { λ r. ⌜ r ≡ wordAt (four (now (s0 .entry)) (now (s1 .entry)) (now (s2 .entry)) (now (s3 .entry))) (now (codes .entry)) (layer % 4) cut at ⌝ }
 {
-    if codes.len() != 3 {
-        return false;
-    }
-    if 3 < codes[0] {
-        return false;
-    }
-    if 3 < codes[1] {
-        return false;
-    }
-    if codes[2] < 16 {
-        return false;
-    }
-    codes[2] < 19
+    let words = [
+        store::get(s0, at),
+        store::get(s1, at),
+        store::get(s2, at),
+        store::get(s3, at),
+    ];
+    evaluate(codes, layer % 4, cut, &words)
 }
 
 // Word i of a layer of a formula over four slices, those that are stores being of capacity n; the layer's number counts modulo 4.
@@ -239,14 +212,7 @@ pub fn word(
 ) -> u64
     ensures { λ r. ⌜ r ≡ machineWord n (four (now (s0 .entry)) (now (s1 .entry)) (now (s2 .entry)) (now (s3 .entry))) (now (codes .entry)) layer i ⌝ }
 {
-    let k = layer % 4;
-    let at = place(n, k, i);
-    let cut = existing(places(n, k), i);
-    let words = [
-        store::get(s0, at),
-        store::get(s1, at),
-        store::get(s2, at),
-        store::get(s3, at),
-    ];
-    evaluate(codes, k, cut, &words)
+    let cut = spots::cut(true, n, layer, i);
+    let at = spots::spot(n, layer, i);
+    word_at(codes, layer, cut, at, s0, s1, s2, s3)
 }

@@ -1,10 +1,10 @@
 -- What each way out of `contains` answers is what the definition answers there.
-use mathlib.Core.Bool.{Bool, true, false}
+use mathlib.Core.Bool.{Bool, false}
 use mathlib.Core.List.{List}
 use mathlib.Core.Path.{_≡_, ap, _∙_}
 use Prim.Native.Nat.{ℕ, _/_, _%_}
 use borrow.Author.Tests.{lt-ltb}
-use lib.Dec.{ltb, eqb}
+use lib.Dec.{eqb}
 use Rattle.util.specs.Outcome.{Settled, settled}
 use Rattle.util.specs.Word.{bit}
 use Rattle.store.specs.Answer.{askedPaper}

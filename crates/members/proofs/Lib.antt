@@ -1,3 +1,4 @@
 pub mod Spots
 pub mod Places
 pub mod Answers
+pub mod Tested

@@ -20,6 +20,10 @@ locateOf s i =
     (cond (ltb i N) (record { numbers = 0 ∷ N ∷ word N s 0 (i / 64) ∷ []; lent = tt }) (refuses 3 tt))
     (refuses 2 tt)
 
+-- "An id is a member if it is below N and its layer-0 bit is set."
+abbrev pub isMember : List ℕ → ℕ → Bool
+isMember s i = ltb i (cap s) && holds (cap s) s i
+
 -- "`contains` .. for an id at or past N answer[s] no"
 unfoldable pub containsOf : List ℕ → ℕ → Outcome (Unit {0})
-containsOf s i = cond (isStore s) (says (ltb i (cap s) && holds (cap s) s i) tt) (refuses 2 tt)
+containsOf s i = cond (isStore s) (says (isMember s i) tt) (refuses 2 tt)

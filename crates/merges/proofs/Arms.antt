@@ -14,9 +14,9 @@ use Rattle.util.proofs.Same.{both}
 use Rattle.store.specs.Layout.{cap, isStore}
 use Rattle.store.specs.Word.{Sound, Words64}
 use Rattle.store.proofs.Geometry.{store-is}
-use Rattle.summary.specs.Calls.{soundOf, isSoundOf}
-use Rattle.summary.proofs.Said.{sound-said}
-use Rattle.ops.specs.Calls.{isPair, assignOf, Sounds}
+use Rattle.soundness.specs.Calls.{soundOf, isSoundOf}
+use Rattle.soundness.proofs.Said.{sound-said}
+use Rattle.merging.specs.Calls.{isPair, assignOf, Sounds}
 use Rattle.desk.specs.Slots.{numberOf, spanOf, partOf, backOf}
 use Rattle.desk.specs.declared.Span.{Span}
 use Rattle.desk.proofs.Laws.{part-is, back-is}

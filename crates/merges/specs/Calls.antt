@@ -6,8 +6,8 @@ use mathlib.Core.List.{List}
 use Prim.Native.Nat.{ℕ}
 use lib.Dec.{eqb, leb}
 use lib.ListN.{length}
-use Rattle.summary.specs.Calls.{isSoundOf}
-use Rattle.ops.specs.Calls.{assignOf}
+use Rattle.soundness.specs.Calls.{isSoundOf}
+use Rattle.merging.specs.Calls.{assignOf}
 use Rattle.desk.specs.Slots.{numberOf, isSlot, partOf, backOf}
 use Rattle.said.specs.Numbers.{unknown, saidOf, Left, left, leftOf}
 

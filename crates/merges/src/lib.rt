@@ -4,7 +4,7 @@ ghost use Prim.Native.Nat.{_≤_};
 ghost use lib.ListN.{length, take};
 ghost use Rattle.said.specs.Numbers.{left};
 ghost use Rattle.desk.specs.Slots.{partOf};
-ghost use Rattle.ops.specs.Calls.{Sounds};
+ghost use Rattle.merging.specs.Calls.{Sounds};
 ghost use Rattle.merges.specs.Calls.{isMerge, isUnsound, mergeOf, soundOnlyOf, intoOf, slotsOf, changeOf};
 use said::Said;
 
@@ -33,7 +33,7 @@ fn is_merge(word: u64) -> bool
 fn is_unsound(part: &[u64]) -> bool
     ensures { λ r. ⌜ r ≡ isUnsound (now (part .entry)) ⌝ }
 {
-    let a = said::asked(summary::is_sound(part));
+    let a = said::asked(soundness::is_sound(part));
     if a.count == 2 {
         return a.b == 0;
     }

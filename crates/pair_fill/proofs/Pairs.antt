@@ -1,13 +1,10 @@
--- What each arm of the code makes, and that the layers that are lent on are those of the stores.
+-- The layers that are lent on are those of the stores.
 use mathlib.Core.Bool.{Bool, true, false, cond}
 use mathlib.Core.List.{List, [], _∷_}
 use mathlib.Core.Logic.{_≢_}
 use mathlib.Core.Path.{_≡_, refl, sym, ap, ap₂, _∙_}
 use Prim.Native.Nat.{ℕ, zero, suc, _<_}
-use native.Mathlib.Decide.{ℕ-discrete}
 use native.Mathlib.Omega.{arith}
-use borrow.Author.Tests.{eq-eqb, ne-eqb}
-use lib.Bits.{bitAnd, bitOr, bitXor}
 use lib.ListN.{length, getD}
 use Rattle.util.specs.Outcome.{Settled, settled}
 use Rattle.layers.specs.Calls.{layerPart}
@@ -18,38 +15,8 @@ use Rattle.fill.specs.declared.Batch.{Batch}
 use Rattle.fill.specs.declared.Stop.the-variants.{Refused}
 use Rattle.fill.specs.Fill.{Filled, stopped, fillFrom, batchPaper, filled}
 use Rattle.fill.proofs.Fills.{fill-same, fill-answered}
-use Rattle.codes.specs.Tree.{xorIn}
-use Rattle.pair_fill.specs.Pair.{joined, joinedParts, pairWords, pairIn, pairOf}
-
--- ---- what a code makes
-
-module _ (code k x y : ℕ) where
-  pub joined-and : code ≡ 16 → bitAnd x y ≡ joined code k x y
-  unfolding joined
-  joined-and e = sym (rw (eq-eqb code 16 e))
-
-  module _ (n : code ≢ 16) where
-    pub joined-or : code ≡ 17 → bitOr x y ≡ joined code k x y
-    unfolding joined
-    joined-or e = sym (rw (ne-eqb code 16 n, eq-eqb code 17 e))
-
-    joined-xor : code ≢ 17 → xorIn k x y ≡ joined code k x y
-    unfolding joined
-    joined-xor o = sym (rw (ne-eqb code 16 n, ne-eqb code 17 o))
-
-    pub joined-ids : code ≢ 17 → k ≡ 0 → bitXor x y ≡ joined code k x y
-    unfolding xorIn
-    joined-ids o z = ap (λ (l : ℕ). xorIn l x y) (sym z) ∙ joined-xor o
-
--- above layer 0 or and xor are alike
-pub joined-above : (code k x y : ℕ) → code ≢ 16 → k ≢ 0 → bitOr x y ≡ joined code k x y
-unfolding xorIn
-joined-above code zero x y n z = absurd (z refl)
-joined-above code (suc k) x y n z = go (ℕ-discrete code 17)
-  where
-    go : Dec (code ≡ 17) → bitOr x y ≡ joined code (suc k) x y
-    go (yes e) = joined-or code (suc k) x y n e
-    go (no o) = joined-xor code (suc k) x y n o
+use Rattle.codes.specs.Tree.{joined}
+use Rattle.pair_fill.specs.Pair.{joinedParts, pairWords, pairIn, pairOf}
 
 -- ---- the layers
 

@@ -2,8 +2,6 @@
 use mathlib.Core.Bool.{cond}
 use mathlib.Core.List.{List}
 use Prim.Native.Nat.{ℕ}
-use lib.Bits.{bitAnd, bitOr}
-use lib.Dec.{eqb}
 use lib.ListN.{length, getD}
 use Rattle.util.specs.Outcome.{Outcome}
 use Rattle.layers.specs.Calls.{layerPart}
@@ -12,11 +10,7 @@ use Rattle.iter.specs.Calls.{fits}
 use Rattle.iter.specs.Steps.{parts}
 use Rattle.fill.specs.declared.Stop.the-variants.{Refused}
 use Rattle.fill.specs.Fill.{Filled, stopped, fillFrom, filled}
-use Rattle.codes.specs.Tree.{xorIn}
-
--- "16 and, 17 or, 18 xor": what a code makes of two words of layer k; every other code is taken for xor
-unfoldable pub joined : ℕ → ℕ → ℕ → ℕ → ℕ
-joined code k x y = cond (eqb code 16) (bitAnd x y) (cond (eqb code 17) (bitOr x y) (xorIn k x y))
+use Rattle.codes.specs.Tree.{joined}
 
 -- of layers that are lent as lists, the lowest first
 abbrev pub joinedParts : ℕ → List (List ℕ) → List (List ℕ) → ℕ → ℕ → ℕ

@@ -9,27 +9,12 @@ ghost use Rattle.iter.specs.Calls.{Fine};
 ghost use Rattle.iter.specs.Steps.{isReading, Lowers, Sinks};
 ghost use Rattle.iter.specs.Walk.{lowLayer, kind};
 ghost use Rattle.fill.specs.Fill.{fillFrom, batchPaper, filled};
-ghost use Rattle.pair_fill.specs.Pair.{joined, joinedParts, pairOf};
+ghost use Rattle.codes.specs.Tree.{joined};
+ghost use Rattle.pair_fill.specs.Pair.{joinedParts, pairOf};
 use fill::Batch;
 use fill::Stop;
 use iter::Cursor;
 use iter::Sunk;
-
-// What a code makes of two words of layer k.
-fn joined(code: u8, k: usize, x: u64, y: u64) -> u64
-    ensures { λ r. ⌜ r ≡ joined code k x y ⌝ }
-{
-    if code == 16 {
-        return x & y;
-    }
-    if k != 0 {
-        return x | y;
-    }
-    if code != 17 {
-        return x ^ y;
-    }
-    x | y
-}
 
 // The words below the lowest bit of the layer above layer j are read and joined.
 fn read(c: Cursor, code: u8, a: &[u64], b: &[u64], j: usize) -> Cursor
@@ -37,7 +22,7 @@ fn read(c: Cursor, code: u8, a: &[u64], b: &[u64], j: usize) -> Cursor
     ensures { λ r. ⌜ Lowers (λ (k i : ℕ). joined code k (getD (now (a .entry)) i 0) (getD (now (b .entry)) i 0)) j c r ⌝ }
 {
     let q = c.place(j + 1);
-    let w = joined(code, j, store::get(a, q), store::get(b, q));
+    let w = codes::joined(code, j, store::get(a, q), store::get(b, q));
     c.handle_level(j, w)
 }
 

@@ -16,7 +16,7 @@ use Rattle.fill.specs.Fill.{Filled, batchPaper, filled}
 use Rattle.fill.proofs.Fills.{the-batch}
 use Rattle.said.specs.Numbers.{Left, left}
 use Rattle.said.specs.declared.Said.{Said}
-use Rattle.cursors.specs.Cursors.{backAt}
+use Rattle.putback.specs.Putback.{backAt}
 use Rattle.places.specs.Places.{outAt, toldOf, batchedOf, filledOf}
 
 -- ---- ids into words: what is left, put behind what was put, is the whole

@@ -11,7 +11,9 @@ use Rattle.fill.specs.declared.Stop.the-variants.{Full, Paused, End, Refused}
 use Rattle.fill.specs.Fill.{Filled, batch, filled}
 use Rattle.said.specs.Numbers.{oneOf, Left, left}
 use Rattle.said.specs.declared.Said.{Said}
-use Rattle.cursors.specs.Cursors.{lowOf, backAt, three}
+use Rattle.cursors.specs.Cursors.{lowOf}
+use Rattle.told.specs.Told.{three}
+use Rattle.putback.specs.Putback.{backAt}
 use Rattle.operands.specs.Operands.{numbersOf}
 
 abbrev pub placesOf : List ℕ → ℕ

@@ -91,7 +91,7 @@ pub fn batched(desk: &mut [u64], c: u64, d: u64, b: Batch, ids: &[u32]) -> Said
 {
     let k = b.cursor;
     let stop = b.stop;
-    cursors::put(desk, c, k);
+    putback::put(desk, c, k);
     back(desk, d, ids);
     told(stop, b.count, b.reads)
 }

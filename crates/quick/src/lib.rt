@@ -39,7 +39,7 @@ fn give(words: &mut [u64; 10]) -> u64
     let w7 = words[7];
     let w8 = words[8];
     let b = u64::trailing_zeros(m) as u64;
-    let a = util::drop_lowest(m);
+    let a = lowest::drop_lowest(m);
     *words = [a, w1, w2, w3, w4, w5, w6, w7, w8, 0];
     w5 + b
 }

@@ -1,6 +1,7 @@
 // The walk of one store as the Rust's `BitIter`: a reader that holds the lent store beside its cursor.
 ghost use mathlib.Core.Path.{_≡_};
-ghost use Rattle.iter.specs.Calls.{startedOf, nextIn};
+ghost use Rattle.iter.specs.Calls.{nextIn};
+ghost use Rattle.starts.specs.Calls.{startedOf};
 ghost use Rattle.reader.specs.Readers.{told};
 use iter::Cursor;
 use iter::Next;
@@ -21,7 +22,7 @@ pub struct Told {
 pub fn iter<'a>(store: &'a [u64]) -> BitIter<'a>
     ensures { λ r. ⌜ (r .store ≡ store .entry) × (r .cursor ≡ startedOf (now (store .entry))) ⌝ }
 {
-    let cursor = iter::started(store);
+    let cursor = starts::started(store);
     BitIter { store, cursor }
 }
 

@@ -6,12 +6,13 @@ use Prim.Native.Nat.{ℕ}
 use borrow.Author.Tests.{eq-eqb, ne-eqb}
 use lib.Dec.{ltb}
 use Rattle.desk.specs.Slots.{numberOf, partOf}
-use Rattle.iter.specs.Calls.{startedOf, nextIn}
+use Rattle.iter.specs.Calls.{nextIn}
+use Rattle.starts.specs.Calls.{startedOf}
 use Rattle.reader.specs.Readers.{told}
 use Rattle.reader.specs.declared.Told.{Told}
 use Rattle.said.specs.Numbers.{unknown}
 use Rattle.said.specs.declared.Said.{Said}
-use Rattle.cursors.specs.Cursors.{toldOf}
+use Rattle.told.specs.Told.{toldOf}
 use Rattle.readers.specs.Calls.{firstWord, fitsOf, firstOf, askOf}
 
 pub first-is : (desk : List ℕ) (s b : ℕ) {part : List ℕ} {t : Told} {r : Said} → part ≡ partOf desk s → t ≡ told (nextIn part (startedOf part) b)

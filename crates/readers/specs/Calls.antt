@@ -5,10 +5,11 @@ use mathlib.Core.List.{List}
 use Prim.Native.Nat.{ℕ}
 use lib.Dec.{eqb}
 use Rattle.desk.specs.Slots.{numberOf, isSlot, partOf}
-use Rattle.iter.specs.Calls.{startedOf, nextIn}
+use Rattle.iter.specs.Calls.{nextIn}
+use Rattle.starts.specs.Calls.{startedOf}
 use Rattle.said.specs.Numbers.{unknown}
 use Rattle.said.specs.declared.Said.{Said}
-use Rattle.cursors.specs.Cursors.{toldOf}
+use Rattle.told.specs.Told.{toldOf}
 
 -- the command word, a letter a byte, the first the highest
 abbrev pub firstWord : ℕ

@@ -12,7 +12,7 @@ fn first(desk: &[u64], s: u64, budget: u64) -> Said
 {
     let t = reader::first(desk::part(desk, s), budget);
     let a = t.answer;
-    cursors::told(a, t.reads)
+    told::told(a, t.reads)
 }
 
 // Whether the line is of this command, with a slot and a budget.

@@ -6,8 +6,8 @@ use libc::STDIN_FILENO;
 
 // A line that has ended is answered.
 fn reply(desk: &mut [u64], buf: &mut [u8], at: usize, line: u64, code: u64, word: u64) -> usize {
-    let w = script::command(code, word);
-    let n = script::place(code);
+    let w = line_code::command(code, word);
+    let n = line_code::place(code);
     answers::answer(desk, w, n, buf, at, line)
 }
 

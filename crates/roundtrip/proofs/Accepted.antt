@@ -18,29 +18,12 @@ use Rattle.store.proofs.Build.{flag-one}
 use Rattle.le.specs.Bytes.{le, Bytes}
 use Rattle.le.proofs.Numbers.{bytes-at}
 use Rattle.chunkmap.specs.Map.{countAll, used, entryOf, entries, headOf, mapOf}
+use Rattle.chunkmap.proofs.Bytes.{entries-append, used-append, count-append}
 use Rattle.mapread.specs.Judge.{countIn, usedIn, offsetIn, table, numberIn, wordIn, behind, entryOk, good, total, fill, wordsOf}
 use Rattle.mapread.proofs.Right.{EntryIs, entry-is, Accepted}
 use Rattle.roundtrip.proofs.Written.{count-zero}
 
--- ---- entries and counts of two lists, and of zeros
-
-entries-append : (q : ℕ) (xs ys : List ℕ) → entries q (xs ++ ys) ≡ entries q xs ++ entries (q + length xs) ys
-unfolding entries
-entries-append q [] ys = let e : q ≡ q + 0 = omega arith in ap (λ (k : ℕ). entries k ys) e
-entries-append q (x ∷ xs) ys =
-    let e : suc q + length xs ≡ q + suc (length xs) = omega arith in
-    ap (λ (l : List ℕ). entryOf q x ++ l) (entries-append (suc q) xs ys ∙ ap (λ (k : ℕ). entries (suc q) xs ++ entries k ys) e)
-    ∙ sym (append-assoc (entryOf q x) (entries (suc q) xs) (entries (q + suc (length xs)) ys))
-
-used-append : (xs ys : List ℕ) → used (xs ++ ys) ≡ used xs + used ys
-unfolding used
-used-append [] ys = omega arith
-used-append (x ∷ xs) ys = omega (arith, used-append xs ys)
-
-pub count-append : (xs ys : List ℕ) → countAll (xs ++ ys) ≡ countAll xs + countAll ys
-unfolding countAll
-count-append [] ys = omega arith
-count-append (x ∷ xs) ys = omega (arith, count-append xs ys)
+-- ---- entries and counts of zeros
 
 entries-zeros : (q n : ℕ) → entries q (replicate n 0) ≡ []
 unfolding entries

@@ -17,7 +17,7 @@ use Rattle.store.proofs.Build.{word-build}
 use Rattle.store.proofs.Count.{countWords, count-words}
 use Rattle.chunkmap.specs.Map.{wordsIn, countAll}
 use Rattle.chunkmap.proofs.Words.{kept-low}
-use Rattle.roundtrip.proofs.Accepted.{count-append}
+use Rattle.chunkmap.proofs.Bytes.{count-append}
 use Rattle.roundtrip.proofs.Stores.{long-in, made-fine, made-members}
 
 -- the bits of a short word are all below its width

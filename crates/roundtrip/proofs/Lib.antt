@@ -3,4 +3,3 @@ pub mod Accepted
 pub mod Stores
 pub mod Counts
 pub mod Theorems
-pub mod Samples

@@ -137,7 +137,7 @@ module _ (m : List ℕ) (N : ℕ) (e : judgeOf m N ≡ 0) where
       both-parts : {o : Outcome (List ℕ)} {k : ℕ} {x y : List ℕ} → o ≡ gives k x → o .lent ≡ y → o ≡ gives k y
       both-parts {o} {k} {x} {y} p q = p ∙ ap (gives k) (sym (ap (λ (o : Outcome (List ℕ)). o .lent) p) ∙ q)
 
--- ---- ACCEPTANCE is exactly "is the map of some set of that capacity"
+-- ---- ACCEPTED is exactly what is the map of some set of that capacity
 
 pub accepts : (m : List ℕ) → Bytes m → (N : ℕ) → (judgeOf m N ≡ 0) ↔ MapOfSome m N
 accepts m bytes N = (

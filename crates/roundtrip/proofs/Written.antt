@@ -18,7 +18,7 @@ use Rattle.store.proofs.Build.{flag-zero, flag-one}
 use Rattle.le.specs.Bytes.{le, numAt}
 use Rattle.le.proofs.Numbers.{length-le, num-at}
 use Rattle.chunkmap.specs.Map.{countAll, used, entries, headOf, mapOf}
-use Rattle.chunkmap.proofs.Bytes.{length-head, length-map, used-le}
+use Rattle.chunkmap.proofs.Bytes.{length-head, length-map, used-le, count-le}
 use Rattle.mapread.specs.Judge.{capIn, countIn, usedIn, offsetIn, table, numberIn, wordIn, behind, entryOk, good, total, fill, wordsOf}
 use Rattle.mapread.proofs.Right.{is-entry, Accepted}
 
@@ -149,16 +149,6 @@ module _ (N : ℕ) (most : N ≤ maxCap) (r : List ℕ) where
           ∙ sym (snoc w ws)
 
 -- ---- the whole map, with any bytes behind it
-
-ones-in-le : (d n : ℕ) → onesIn d n ≤ d
-unfolding onesIn
-ones-in-le zero n = omega arith
-ones-in-le (suc d) n = omega (arith, ones-in-le d (n / 2))
-
-count-le : (ws : List ℕ) → countAll ws ≤ 64 * length ws
-unfolding countAll count
-count-le [] = omega arith
-count-le (w ∷ ws) = omega (arith, count-le ws, ones-in-le 64 w)
 
 module _ (N : ℕ) (ws : List ℕ) (some : 1 ≤ N) (most : N ≤ maxCap) (long : length ws ≡ layerLen N 0) (low : Low N 0 ws) (r : List ℕ) where
   few : length ws ≤ 262144

@@ -10,7 +10,6 @@ use Rattle.store.specs.Layout.{cap, StoreOf}
 use Rattle.store.specs.Word.{Member, Sound, Words64}
 use Rattle.store.proofs.Members.{same-store}
 
--- "on sound stores `equal` is equality of members"
 pub equal-members : (s t : List ℕ) → StoreOf (cap s) s → StoreOf (cap t) t → cap s ≡ cap t → Words64 s → Words64 t → Sound (cap s) s → Sound (cap t) t
     → (same s t ≡ true) ↔ ((j : ℕ) → Member s j ↔ Member t j)
 equal-members s t is it e ws wt zs zt = (

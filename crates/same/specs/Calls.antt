@@ -3,7 +3,6 @@ use mathlib.Core.Bool.{cond, _&&_}
 use mathlib.Core.List.{List}
 use Prim.Native.Nat.{ℕ}
 use lib.Dec.{eqb}
-use lib.ListN.{length}
 use Rattle.util.specs.Outcome.{Outcome}
 use Rattle.util.specs.Word.{same}
 use Rattle.store.specs.Answer.{says, refuses}

@@ -7,7 +7,8 @@ use borrow.Author.Tests.{lt-ltb, le-ltb}
 use lib.Bits.{bitOr}
 use lib.Dec.{ltb}
 use lib.ListN.{getD, set}
-use Rattle.script.specs.Line.{kindOf, stateOf, codeOf, valueOf, placeOf, nextOf, deskOf, wordOf}
+use Rattle.line_code.specs.Code.{placeOf}
+use Rattle.script.specs.Line.{kindOf, stateOf, codeOf, valueOf, nextOf, deskOf, wordOf}
 
 module _ (desk : List ℕ) (old word b : ℕ) {k p v s new q x : ℕ} {l : List ℕ} where
   pub taken : k ≡ kindOf b → p ≡ placeOf old → v ≡ getD desk p 0 → s ≡ stateOf (old % 256) word v k → new ≡ codeOf old s → q ≡ placeOf new

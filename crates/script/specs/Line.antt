@@ -7,6 +7,7 @@ use Prim.Native.Nat.{ℕ, _+_, _-_, _*_, _/_, _%_, _^_}
 use lib.Bits.{bitOr}
 use lib.Dec.{eqb, leb, ltb}
 use lib.ListN.{getD, set}
+use Rattle.line_code.specs.Code.{placeOf}
 
 -- a byte: 0 to 9 a digit, 10 a blank, 11 any other but a letter, and a letter is itself
 abbrev pub kindOf : ℕ → ℕ
@@ -43,10 +44,6 @@ codeOf old s = cond (leb (256 * 4095) old) 3 (cond (eqb s 3) 3 (bitOr (256 * (ol
 unfoldable pub valueOf : ℕ → ℕ → ℕ
 valueOf v k = cond (ltb 9 k) 0 (cond (ltb ((18446744073709551615 - k) / 10) v) 0 (v * 10 + k))
 
--- where it is on the desk: number i, counted from 0, is word i + 1
-unfoldable pub placeOf : ℕ → ℕ
-placeOf code = cond (ltb (code % 256) 4) 0 (code % 256 / 2 - 1)
-
 -- the code behind byte b, and the desk
 unfoldable pub nextOf : List ℕ → ℕ → ℕ → ℕ → ℕ
 nextOf desk old word b = codeOf old (stateOf (old % 256) word (getD desk (placeOf old) 0) (kindOf b))
@@ -58,7 +55,3 @@ deskOf desk old word b =
 -- the letters as the digits of a number in base 256
 unfoldable pub wordOf : ℕ → ℕ → ℕ
 wordOf w b = cond (ltb 11 (kindOf b)) (bitOr (w * 2 ^ 8 % 2 ^ 64) (kindOf b)) w
-
--- the command of a line that ends: in its word, or in a number
-unfoldable pub commandOf : ℕ → ℕ → ℕ
-commandOf code word = cond (eqb code 3) 0 (cond (eqb (code % 2) 0) 0 word)

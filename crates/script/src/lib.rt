@@ -3,7 +3,7 @@
 // base 256. The code is 0 at the start and 3 where the line is no command. Else it is 256 times the count of the line's bytes, and a
 // state: 1 in the word, 4 + 2 i behind the blank of number i, counted from 0, and 5 + 2 i in that number.
 ghost use mathlib.Core.Path.{_≡_};
-ghost use Rattle.script.specs.Line.{kindOf, blankOf, letterOf, digitOf, stateOf, codeOf, valueOf, placeOf, nextOf, deskOf, wordOf, commandOf};
+ghost use Rattle.script.specs.Line.{kindOf, blankOf, letterOf, digitOf, stateOf, codeOf, valueOf, nextOf, deskOf, wordOf};
 
 fn wide(x: u8) -> u64
     ensures { λ r. ⌜ r ≡ x ⌝ }
@@ -114,25 +114,14 @@ fn value(v: u64, k: u64) -> u64
     v * 10 + k
 }
 
-// The place on the desk of the number that the line is in, which is how many numbers it has; 0 where it is in none.
-pub fn place(code: u64) -> usize
-    ensures { λ r. ⌜ r ≡ placeOf code ⌝ }
-{
-    let state = code % 256;
-    if state < 4 {
-        return 0;
-    }
-    (state / 2 - 1) as usize
-}
-
 // The code behind one more byte; the number that the byte is in goes to its place on the desk.
 pub fn take(desk: &mut [u64], old: u64, word: u64, b: u8) -> u64
     ensures { λ r. ⌜ (r ≡ nextOf (now (desk .entry)) old word b) × (now (desk .exit) ≡ deskOf (now (desk .entry)) old word b) ⌝ }
 {
     let k = kind(b);
-    let v = store::get(desk, place(old));
+    let v = store::get(desk, line_code::place(old));
     let new = code(old, state(old % 256, word, v, k));
-    store::put(desk, place(new), value(v, k));
+    store::put(desk, line_code::place(new), value(v, k));
     new
 }
 
@@ -142,14 +131,4 @@ pub fn word(w: u64, b: u8) -> u64
 {
     let k = kind(b);
     if 11 < k { w << 8 | k } else { w }
-}
-
-// The command word of a line that ends here; 0 where it is no command.
-pub fn command(code: u64, word: u64) -> u64
-    ensures { λ r. ⌜ r ≡ commandOf code word ⌝ }
-{
-    if code == 3 {
-        return 0;
-    }
-    if code % 2 == 0 { 0 } else { word }
 }

@@ -7,7 +7,7 @@ use Prim.Native.Nat.{ℕ, suc, _/_, _%_, _≤_, _<_}
 use native.Mathlib.Decide.{decLt, ℕ-discrete}
 use native.Mathlib.Omega.{arith}
 use lib.ListN.{length}
-use Rattle.util.specs.Word.{bit, change}
+use Rattle.util.specs.Word.{bit}
 use Rattle.util.proofs.Bits.{change-same, change-other}
 use Rattle.store.specs.Layout.{top, room, storeLen}
 use Rattle.store.specs.Word.{word, on, anc, Sound}

@@ -1,24 +1,24 @@
 -- What a caller wants of the calls, for every slice and id: soundness is kept, the members change as said and not otherwise, and the
 -- answers speak of membership.
-use mathlib.Core.Bool.{Bool, true, false, cond, _&&_}
+use mathlib.Core.Bool.{Bool, true, false, cond}
 use mathlib.Core.List.{List, [], _∷_, List·Memᴰ, List·Memᴰ·cases-cons, List·Memᴰ·not-nil}
 use mathlib.Core.List.List·Memᴰ.{List·Memᴰ·head, List·Memᴰ·tail}
 use mathlib.Core.Logic.{_≢_, _↔_, _⊎_, inl, inr, ⊎-elim}
 use mathlib.Core.Path.{_≡_, refl, sym, ap, _∙_, subst}
-use Prim.Native.Nat.{ℕ, _+_, _≤_, _<_}
-use native.Mathlib.Decide.{decLt}
+use Prim.Native.Nat.{ℕ, _<_}
 use native.Mathlib.Omega.{arith}
-use borrow.Author.Tests.{lt-ltb, le-ltb, ltb-true, eq-eqb, eqb-true}
-use lib.Dec.{ltb, eqb}
-use lib.ListN.{length, getD}
+use borrow.Author.Tests.{lt-ltb, ltb-true}
+use lib.Dec.{ltb}
+use lib.ListN.{getD}
 use Rattle.util.specs.Outcome.{Outcome}
 use Rattle.util.proofs.Same.{both}
 use Rattle.store.specs.Answer.{says, refuses}
-use Rattle.store.specs.Layout.{top, cap, isStore, StoreOf}
+use Rattle.store.specs.Layout.{cap, isStore, StoreOf}
 use Rattle.store.specs.Word.{on, Member, Sound}
-use Rattle.store.proofs.Geometry.{is-store, store-is, store-kept}
-use Rattle.members.specs.Calls.{holds, containsOf}
-use Rattle.bitset.specs.Calls.{moveOf, addOf, removeOf, allBelow, addAll, addListOf}
+use Rattle.store.proofs.Geometry.{store-is, store-kept}
+use Rattle.members.specs.Calls.{holds, isMember, containsOf}
+use Rattle.members.proofs.Tested.{is-member}
+use Rattle.bitset.specs.Calls.{moveOf, addOf, removeOf, allBelow, addAll}
 use Rattle.bitset.specs.Edit.{edits, addLayers, removeLayers, layersOf}
 use Rattle.bitset.proofs.Edits.{length-edits, cap-edits}
 use Rattle.sets.proofs.Moves.{sound-add, sound-remove, on-add, on-remove}
@@ -35,7 +35,7 @@ pub contains-member : (s : List ℕ) (i : ℕ) → isStore s ≡ true → (conta
 unfolding containsOf
 contains-member s i h = (to, from)
   where
-    asked : containsOf s i ≡ says (ltb i (cap s) && holds (cap s) s i) tt
+    asked : containsOf s i ≡ says (isMember s i) tt
     asked = rw h
 
     yes-is : (b : Bool) → says b tt ≡ says {X = Unit {0}} true tt → b ≡ true
@@ -43,12 +43,10 @@ contains-member s i h = (to, from)
     yes-is false e = absurd (omega (arith, ap (λ (o : Outcome (Unit {0})). getD (o .numbers) 1 0) e))
 
     to : containsOf s i ≡ says true tt → Member s i
-    to e =
-        let b = both (ltb i (cap s)) (holds (cap s) s i) (yes-is _ (sym asked ∙ e)) in
-        record { below = ltb-true i (cap s) (b .0); held = eqb-true (on (cap s) s 0 i) 1 (b .1) }
+    to e = is-member s i .0 (yes-is (isMember s i) (sym asked ∙ e))
 
     from : Member s i → containsOf s i ≡ says true tt
-    from m = rw (h, lt-ltb i (cap s) (m .below), eq-eqb (on (cap s) s 0 i) 1 (m .held))
+    from m = asked ∙ ap (λ (b : Bool). says b tt) (is-member s i .1 m)
 
 -- ---- adding and removing, as one: `move true` adds and `move false` removes
 
@@ -90,9 +88,6 @@ module _ (b : Bool) (s : List ℕ) (i : ℕ) where
 
   cap-move : cap (move b s i) ≡ cap s
   cap-move = moved (λ t. cap t ≡ cap s) refl (λ z g. cap-edits b (cap s) s i (layersOf b (cap s) s i))
-
-  length-move : length (move b s i) ≡ length s
-  length-move = moved (λ t. length t ≡ length s) refl (λ z g. length-edits b (cap s) s i (layersOf b (cap s) s i))
 
   sound-move : Sound (cap s) s → Sound (cap (move b s i)) (move b s i)
   sound-move z = rw cap-move (moved (Sound (cap s)) z (λ y g. go b y g))

@@ -8,7 +8,8 @@ use borrow.Author.Tests.{lt-ltb, le-ltb, ne-eqb}
 use borrow.Rule.Slice.PartMut.{mid-len}
 use lib.ListN.{length, set}
 use Rattle.store.proofs.Parts.{part-set}
-use Rattle.desk.specs.Slots.{numberOf, spanOf, partOf, backOf, fitsOf, lentOf}
+use Rattle.desk.specs.Slots.{numberOf, spanOf, partOf, backOf}
+use Rattle.lends.specs.Lends.{fitsOf, lentOf}
 use Rattle.desk.specs.declared.Span.{Span}
 use Rattle.desk.proofs.Laws.{part-is, back-is}
 use Rattle.said.specs.Numbers.{oneOf, unknown, left}

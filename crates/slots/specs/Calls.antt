@@ -5,7 +5,8 @@ use mathlib.Core.List.{List}
 use Prim.Native.Nat.{ℕ}
 use lib.Dec.{eqb, ltb}
 use lib.ListN.{length, set}
-use Rattle.desk.specs.Slots.{numberOf, partOf, backOf, fitsOf, lentOf}
+use Rattle.desk.specs.Slots.{numberOf, partOf, backOf}
+use Rattle.lends.specs.Lends.{fitsOf, lentOf}
 use Rattle.said.specs.Numbers.{oneOf, unknown, Left, left}
 
 -- the command words, a letter a byte, the first the highest

@@ -13,7 +13,7 @@ const POKE: u64 = 0x706f_6b65;
 fn lend(desk: &mut [u64], s: u64, from: u64, len: u64) -> Said
     ensures { λ r. ⌜ left r (now (desk .exit)) ≡ lendOf (now (desk .entry)) s from len ⌝ }
 {
-    if desk::lend(desk, s, from, len) {
+    if lends::lend(desk, s, from, len) {
         return said::one(0);
     }
     said::unknown()

@@ -49,6 +49,6 @@ stoppedOf f = stopOf (f .stop) (length (f .ids))
 abbrev pub fillWordsOf : Filled → List ℕ → List ℕ
 fillWordsOf f l = leftOf (stoppedOf f) l (f .cursor) (f .reads)
 
--- "as many members as `out` holds or the budget allows .. unused places of `out` unchanged"
+-- the members that were found stand in front, and places that are not used stay as they were
 abbrev pub outOf : Filled → List ℕ → List ℕ
 outOf f out = filled f out .lent

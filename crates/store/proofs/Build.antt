@@ -2,23 +2,23 @@
 use mathlib.Core.Bool.{Bool, true, false, cond}
 use mathlib.Core.List.{List, [], _∷_, _++_, append-nil}
 use mathlib.Core.Logic.{_≢_, _↔_}
-use mathlib.Core.Path.{_≡_, refl, sym, ap, ap₂, _∙_, subst}
-use Prim.Native.Nat.{ℕ, zero, suc, _+_, _-_, _*_, _/_, _%_, _^_, _≤_, _<_, min}
-use native.Mathlib.Decide.{decLt, ℕ-discrete}
+use mathlib.Core.Path.{_≡_, refl, sym, ap, _∙_, subst}
+use Prim.Native.Nat.{ℕ, zero, suc, _+_, _-_, _*_, _/_, _%_, _^_, _≤_, _<_}
+use native.Mathlib.Decide.{decLt}
 use native.Mathlib.Nat.{pow-suc}
 use native.Mathlib.Omega.{arith}
 use borrow.Author.Tests.{eq-eqb, ne-eqb}
 use lib.Dec.{eqb}
-use lib.ListN.{length, getD, take, drop, replicate, length-take, length-drop, length-append, length-replicate, getD-replicate, List·getD-append, List·getD-eq-default}
+use lib.ListN.{length, getD, take, drop, length-take, length-drop, length-replicate, getD-replicate, List·getD-append, List·getD-eq-default}
 use lib.Pow.{pow-mono}
 use lib.Seq.{drop-at, drop-drop, getD-take, getD-drop, getD-append-add}
 use Rattle.util.specs.Word.{bit}
 use Rattle.util.proofs.Bits.{bit-of-zero, bit-zero, bit-suc, bit-high, bits-below}
 use Rattle.store.specs.Layout.{header, maxCap, words, room, layerLen, layerStart, storeLen, cap, top, StoreOf}
-use Rattle.store.specs.Word.{word, on, Member, Sound, Words64}
+use Rattle.store.specs.Word.{word, on, Sound, Words64}
 use Rattle.store.specs.Build.{flag, flags, chunks, summary, layerOf, stacked, build, layer0, room0, Kept, empty}
 use Rattle.store.proofs.Geometry.{end-top, end-step, after-header, within}
-use Rattle.store.proofs.Words.{word-in, word-out, word-lt, on-lt, bit-place, place-in}
+use Rattle.store.proofs.Words.{word-in, word-out, on-lt, bit-place}
 use Rattle.store.proofs.Members.{words-same, by-layers}
 
 -- ---- flags

@@ -3,15 +3,15 @@ use mathlib.Core.Bool.{Bool, true, false, cond}
 use mathlib.Core.List.{List, [], _∷_, map}
 use mathlib.Core.Logic.{_≢_}
 use mathlib.Core.Path.{_≡_, refl, sym, ap, _∙_, subst}
-use Prim.Native.Nat.{ℕ, zero, suc, _+_, _-_, _/_, _≤_, _<_}
+use Prim.Native.Nat.{ℕ, _+_, _-_, _/_, _≤_}
 use native.Mathlib.Numerals.{add-one}
 use native.Mathlib.Omega.{arith}
 use borrow.Author.Tests.{leb-true, eq-eqb, ne-eqb}
-use lib.Dec.{leb, eqb}
-use lib.ListN.{length, getD}
+use lib.Dec.{leb}
+use lib.ListN.{length}
 use Rattle.util.proofs.Same.{both}
 use Rattle.store.specs.Layout.{top, maxCap, isCap, room, span, layerLen, layerEnd, layerStart, storeLen, cap, isStore, StoreOf, folded, endOf, capacityOf}
-use Rattle.store.proofs.Geometry.{store-is, room-closed, after-header, end-top, end-step, within}
+use Rattle.store.proofs.Geometry.{store-is, room-closed, end-top, end-step, within}
 
 -- "The length is exactly 2+L2+L1+L0: 5 at N=1 and 64, 6 at 65, 68 at 4,096, 70 at 4,097, 266,306 at 16,777,216."
 lengths : map storeLen (1 ∷ 64 ∷ 65 ∷ 4096 ∷ 4097 ∷ 16777216 ∷ []) ≡ 5 ∷ 5 ∷ 6 ∷ 68 ∷ 70 ∷ 266306 ∷ []

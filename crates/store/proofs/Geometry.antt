@@ -1,14 +1,13 @@
 -- The layout's laws, over the layer number: which slices are stores, where the layers stand, and that they do not meet.
-use mathlib.Core.Bool.{Bool, true, false, _&&_}
+use mathlib.Core.Bool.{true, _&&_}
 use mathlib.Core.List.{List}
-use mathlib.Core.Logic.{_≢_}
 use mathlib.Core.Path.{_≡_, refl, sym, ap, ap₂, _∙_}
 use Prim.Native.Nat.{ℕ, zero, suc, _+_, _-_, _*_, _/_, _^_, _≤_, _<_}
-use native.Mathlib.Nat.{div-one, sub-self, pow-suc, one-le-pow, add-mul-div-right, div-div-eq-div-mul}
+use native.Mathlib.Nat.{sub-self, pow-suc, one-le-pow, add-mul-div-right, div-div-eq-div-mul}
 use native.Mathlib.Decide.{decLt, le-ind}
 use native.Mathlib.Omega.{arith}
 use lib.Dec.{leb, eqb}
-use lib.ListN.{length, getD, List·getD-eq-default}
+use lib.ListN.{length}
 use borrow.Author.Tests.{le-leb, eq-eqb, leb-true, eqb-true}
 use Rattle.util.proofs.Same.{both}
 use Rattle.store.specs.Layout.{header, top, maxCap, isCap, words, room, layerLen, span, layerEnd, layerStart, storeLen, cap, isStore, StoreOf}
@@ -79,7 +78,7 @@ apart N j k h g = ends-fall N (suc j) k h (omega arith)
 pub within : (N k : ℕ) → k ≤ top N → layerEnd N k ≤ storeLen N
 within N k g = ends-fall N 0 k (omega arith) (omega arith)
 
--- "equal address means equal layer and index"
+-- one place in the store is one index of one layer
 pub same-place : (N k j q r : ℕ) → k ≤ top N → j ≤ top N → q < layerLen N k → r < layerLen N j
     → layerStart N k + q ≡ layerStart N j + r → (k ≡ j) × (q ≡ r)
 same-place N k j q r hk hj hq hr e = go (decLt k j) (decLt j k)

@@ -1,16 +1,16 @@
 -- Members and summaries of sound stores: a summary bit is on exactly if a member lies under it, and the members settle every word.
 use mathlib.Core.List.{List, List·Memᴰ}
-use mathlib.Core.Logic.{_≢_, _↔_}
+use mathlib.Core.Logic.{_↔_}
 use mathlib.Core.Path.{_≡_, refl, sym, ap, _∙_, subst}
-use Prim.Native.Nat.{ℕ, zero, suc, _+_, _*_, _/_, _%_, _^_, _≤_, _<_}
+use Prim.Native.Nat.{ℕ, zero, suc, _+_, _*_, _/_, _≤_, _<_}
 use native.Mathlib.Decide.{decLt, ℕ-discrete}
 use native.Mathlib.Omega.{arith}
 use lib.ListN.{length, getD}
 use lib.Seq.{ext-getD}
-use Rattle.util.specs.Word.{bit, places, Rising}
+use Rattle.util.specs.Word.{Rising}
 use Rattle.util.proofs.Bits.{word-ext}
 use Rattle.util.proofs.Places.{some-bit, places-in, in-places, places-rising}
-use Rattle.store.specs.Layout.{header, top, room, layerLen, layerStart, storeLen, cap, StoreOf}
+use Rattle.store.specs.Layout.{header, top, room, storeLen, cap, StoreOf}
 use Rattle.store.specs.Word.{word, on, anc, Member, members, Sound, Words64}
 use Rattle.store.proofs.Geometry.{spot-in}
 use Rattle.store.proofs.Words.{word-in, word-lt, on-lt, on-word, bit-place}

@@ -1,18 +1,18 @@
 -- Words and bits of layers, over the layer number, and what writing one word does to all of them.
 use mathlib.Core.List.{List}
 use mathlib.Core.Logic.{_≢_}
-use mathlib.Core.Path.{_≡_, refl, sym, ap, ap₂, _∙_}
-use Prim.Native.Nat.{ℕ, zero, suc, _+_, _-_, _*_, _/_, _%_, _^_, _≤_, _<_, min}
+use mathlib.Core.Path.{_≡_, sym, ap, ap₂, _∙_}
+use Prim.Native.Nat.{ℕ, zero, suc, _+_, _-_, _*_, _/_, _%_, _^_, _≤_, _<_}
 use native.Mathlib.Decide.{decLt}
 use native.Mathlib.Nat.{pow-suc, div-one, div-div-eq-div-mul}
 use native.Mathlib.Omega.{arith}
 use lib.Bits.{bitAnd}
-use lib.ListN.{length, getD, set, take, drop, length-set, length-take, List·getD-eq-default}
+use lib.ListN.{length, getD, drop, length-set, length-take, List·getD-eq-default}
 use lib.Pow.{shr-shr}
 use lib.Seq.{getD-set-same, getD-set-other, getD-take, getD-drop}
 use Rattle.util.specs.Word.{bit}
-use Rattle.util.proofs.Bits.{bit-lt, bit-of-zero, bit-high, test-on, test-off}
-use Rattle.store.specs.Layout.{header, top, room, layerLen, layerEnd, layerStart, storeLen, cap}
+use Rattle.util.proofs.Bits.{bit-lt, bit-of-zero, test-on, test-off}
+use Rattle.store.specs.Layout.{header, top, room, layerLen, layerStart, storeLen}
 use Rattle.store.specs.Word.{layerAt, word, on, anc, put, Words64}
 use Rattle.store.proofs.Geometry.{end-step, after-header, within, same-place}
 
@@ -52,13 +52,10 @@ pub on-word : (N : ℕ) (s : List ℕ) (k p : ℕ) → on N s k p ≡ 1 → word
 unfolding on
 on-word N s k p h e = omega (arith, sym h ∙ ap (λ (w : ℕ). bit w (p % 64)) e ∙ bit-of-zero (p % 64))
 
--- a place of layer k has its word in the layer, and that word stands in the store
+-- a place of layer k has its word in the layer
 pub place-in : (N k p : ℕ) → p < room N k → p / 64 < layerLen N k
 unfolding room
 place-in N k p h = omega arith
-
-pub place-at : (N k p : ℕ) → k ≤ top N → p < room N k → layerStart N k + p / 64 < storeLen N
-place-at N k p h g = omega (arith, within N k h, end-step N k h, place-in N k p g)
 
 -- the code's test of a bit
 pub held : (N : ℕ) (s : List ℕ) (k p : ℕ) → p < room N k → bitAnd (getD s (layerStart N k + p / 64) 0) (2 ^ (p % 64)) ≢ 0 → on N s k p ≡ 1
@@ -103,9 +100,6 @@ pub header-put : (N : ℕ) (s : List ℕ) (k i w x : ℕ) → x < header → get
 unfolding put
 header-put N s k i w x h = getD-set-other s (layerStart N k + i) x w 0 (λ e. omega (arith, after-header N (suc k)))
 
-pub cap-put : (N : ℕ) (s : List ℕ) (k i w : ℕ) → cap (put N s k i w) ≡ cap s
-cap-put N s k i w = header-put N s k i w 0 (omega arith)
-
 module _ (N : ℕ) (s : List ℕ) (long : length s ≡ storeLen N) (k i w : ℕ) (hk : k ≤ top N) (hi : i < layerLen N k) where
   pub word-put-same : word N (put N s k i w) k i ≡ w
   unfolding put
@@ -127,11 +121,7 @@ module _ (N : ℕ) (s : List ℕ) (long : length s ≡ storeLen N) (k i w : ℕ)
           let h : layerLen N j ≤ q = omega arith in
           word-out N (put N s k i w) j q h ∙ sym (word-out N s j q h)
 
-  -- bits: those of the word written, and all others as before
+  -- bits of the word written
   pub on-put-same : (p : ℕ) → p / 64 ≡ i → on N (put N s k i w) k p ≡ bit w (p % 64)
   unfolding on
   on-put-same p e = ap (λ (x : ℕ). bit x (p % 64)) (ap (word N (put N s k i w) k) e ∙ word-put-same)
-
-  pub on-put-other : (j p : ℕ) → j ≤ top N → (j ≡ k → p / 64 ≡ i → ⊥) → on N (put N s k i w) j p ≡ on N s j p
-  unfolding on
-  on-put-other j p hj ne = ap (λ (x : ℕ). bit x (p % 64)) (word-put-other j (p / 64) hj ne)

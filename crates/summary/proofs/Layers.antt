@@ -3,70 +3,23 @@ use mathlib.Core.Bool.{Bool, true, false, cond, not, _&&_, true≢false}
 use mathlib.Core.List.{List, [], _∷_, _++_, append-assoc, append-nil}
 use mathlib.Core.Path.{_≡_, refl, sym, ap, ap₂, _∙_}
 use Prim.Native.Nat.{ℕ, suc, _+_, _-_, _*_, _^_, _≤_, _<_, min}
-use native.Mathlib.Decide.{decLe}
 use native.Mathlib.Nat.{zero-add, sub-zero}
 use native.Mathlib.Omega.{arith}
-use mir.Val.{boolByte}
 use borrow.Rule.Slice.PartMut.{midOf, putMid, post-is, same-len-mid, mid-len}
 use lib.Dec.{eqb}
 use lib.ListN.{length, getD, set, take, drop, length-drop, length-append, length-set, take-append-drop, drop-of-length-le}
-use lib.Pow.{pow-mono}
 use lib.Seq.{sets, sets-eq, take-all, take-at, drop-at, take-take, take-add, take-append-le, take-suc, drop-drop, drop-cons, drop-set-lt, length-take-le, getD-take}
 use Rattle.util.specs.Word.{same}
 use Rattle.util.proofs.Same.{same-eq, same-refl}
-use Rattle.store.specs.Build.{flag, flags, chunks, summary, layerOf, stacked, build, layer0}
+use Rattle.store.specs.Build.{flags, chunks, summary, layerOf, stacked, build, layer0}
 use Rattle.store.specs.Layout.{top, words, room, layerLen, layerStart, layerEnd, StoreOf}
-use Rattle.store.proofs.Build.{flags-lt, length-chunks, length-layer, drop-layer}
+use Rattle.store.proofs.Build.{length-chunks, length-layer, drop-layer}
 use Rattle.store.proofs.Geometry.{end-top, end-step, after-header, within}
 use Rattle.summary.specs.Steps.{Two}
 
--- ---- one word of a summary: the flags of 64 words, or of those that are left, from the last down
-
--- the code's `(w != 0) as u64`
-pub flag-byte : (w : ℕ) → boolByte (not (eqb w 0)) ≡ flag w
-flag-byte w = go (eqb w 0)
-  where
-    go : (b : Bool) → boolByte (not b) ≡ cond b 0 1
-    go true = refl
-    go false = refl
-
--- the flags of the words from j to e
-abbrev pub gathered : List ℕ → ℕ → ℕ → ℕ
-gathered p e j = flags (drop j (take e p))
-
-module _ (p : List ℕ) (a e : ℕ) (e-is : e ≡ min (a + 64) (length p)) where
-  long-front : length (take e p) ≡ e
-  long-front = length-take-le e p (omega arith)
-
-  pub gathered-start : 0 ≡ gathered p e e
-  unfolding flags
-  gathered-start = let l : length (take e p) ≤ e = omega (arith, long-front) in sym (ap flags (drop-of-length-le (take e p) l))
-
-  pub gathered-turn : (j x : ℕ) → a < j → j ≤ e → x ≡ gathered p e j → x * 2 + boolByte (not (eqb (getD p (j - 1) 0) 0)) ≡ gathered p e (j - 1)
-  unfolding flags
-  gathered-turn j x h l x-is =
-      let q : suc (j - 1) ≡ j = omega arith in
-      let v = getD-take e p (j - 1) 0 (omega arith) in
-      let f = flag-byte (getD p (j - 1) 0) in
-      let c : gathered p e (j - 1) ≡ flag (getD p (j - 1) 0) + 2 * gathered p e (suc (j - 1)) =
-      ap flags (drop-cons (take e p) (j - 1) 0 (omega (arith, long-front))) ∙ ap (λ (w : ℕ). flag w + 2 * gathered p e (suc (j - 1))) v in
-      omega (arith, ap (gathered p e) q)
-
-  -- with room for one bit more
-  pub gathered-room : (j : ℕ) → a < j → gathered p e j < 2 ^ 63
-  gathered-room j h =
-      let l : length (drop j (take e p)) ≤ 63 = omega (arith, length-drop j (take e p), long-front) in
-      omega (arith, flags-lt (drop j (take e p)), pow-mono l)
-
-  pub gathered-end : a ≤ e → gathered p e a ≡ flags (take 64 (drop a p))
-  gathered-end g = ap flags (go (decLe (a + 64) (length p)))
-    where
-      go : Dec (a + 64 ≤ length p) → drop a (take e p) ≡ take 64 (drop a p)
-      go (yes h) =
-          let q : e ≡ a + 64 = omega arith in
-          ap (λ (n : ℕ). drop a (take n p)) q ∙ ap (drop a) (take-add a 64 p)
-          ∙ drop-at (take a p) (take 64 (drop a p)) a (length-take-le a p (omega arith))
-      go (no h) = ap (drop a) (take-all e p (omega arith)) ∙ sym (take-all 64 (drop a p) (omega (arith, length-drop a p)))
+-- the 64 words below word i of the upper of two layers
+apart : (up i : ℕ) (p : List ℕ) → flags (take 64 (drop (up + 64 * i) p)) ≡ flags (take 64 (drop (64 * i) (drop up p)))
+apart up i p = ap (λ (l : List ℕ). flags (take 64 l)) (sym (drop-drop (64 * i) up p))
 
 -- ---- a layer written anew: what is left to be written gives the whole
 
@@ -82,6 +35,10 @@ module _ {p₀ : List ℕ} {up : ℕ} (z : Two up p₀) where
 
   up-is : up ≡ words (length low)
   up-is = z .over ∙ ap words (sym (length-drop up p₀))
+
+  -- the words below word i begin in the part
+  pub begins : (i : ℕ) → i < up → up + 64 * i < length p₀
+  begins i h = omega (arith, z .fits, z .over)
 
   -- a part of the same length holds two such layers too
   pub two-kept : {p : List ℕ} {i : ℕ} → Written p₀ up p i → Two up p
@@ -100,12 +57,12 @@ module _ {p₀ : List ℕ} {up : ℕ} (z : Two up p₀) where
       }
 
   pub written-turn : {p : List ℕ} {i : ℕ} → Written p₀ up p i → i < up → (w : ℕ)
-      → w ≡ flags (take 64 (drop (64 * i) (drop up p))) → Written p₀ up (set p i w) (suc i)
+      → w ≡ flags (take 64 (drop (up + 64 * i) p)) → Written p₀ up (set p i w) (suc i)
   unfolding chunks
   written-turn {p} {i} h l w w-is =
       let e : up - i ≡ suc (up - suc i) = omega arith in
       let f : 64 * i + 64 ≡ 64 * suc i = omega arith in
-      let v : w ≡ flags (take 64 (drop (64 * i) low)) = w-is ∙ ap (λ (x : List ℕ). flags (take 64 (drop (64 * i) x))) (h .below) in
+      let v : w ≡ flags (take 64 (drop (64 * i) low)) = w-is ∙ apart up i p ∙ ap (λ (x : List ℕ). flags (take 64 (drop (64 * i) x))) (h .below) in
       record {
         upto = l;
         long = length-set p i w ∙ h .long;
@@ -134,7 +91,7 @@ module _ {p : List ℕ} {up : ℕ} (z : Two up p) where
   pub ahead-start : ahead up p 0 ≡ same (take up p) (summary (drop up p))
   ahead-start = ap (λ (m : ℕ). same upper (chunks m (drop up p))) (sub-zero up ∙ up-is z)
 
-  pub ahead-turn : (i w : ℕ) → i < up → w ≡ flags (take 64 (drop (64 * i) (drop up p)))
+  pub ahead-turn : (i w : ℕ) → i < up → w ≡ flags (take 64 (drop (up + 64 * i) p))
       → ahead up p i ≡ (eqb (getD p i 0) w && ahead up p (suc i))
   unfolding chunks same
   ahead-turn i w h w-is =
@@ -142,7 +99,7 @@ module _ {p : List ℕ} {up : ℕ} (z : Two up p) where
       let f : 64 * i + 64 ≡ 64 * suc i = omega arith in
       ap₂ (λ (x : List ℕ) (m : ℕ). same x (chunks m (drop (64 * i) (drop up p))))
       (drop-cons upper i 0 (omega (arith, long-upper)) ∙ ap (λ (x : ℕ). x ∷ drop (suc i) upper) (getD-take up p i 0 h)) e
-      ∙ ap₂ (λ (x : ℕ) (t : List ℕ). eqb (getD p i 0) x && same (drop (suc i) upper) (chunks (up - suc i) t)) (sym w-is)
+      ∙ ap₂ (λ (x : ℕ) (t : List ℕ). eqb (getD p i 0) x && same (drop (suc i) upper) (chunks (up - suc i) t)) (sym (w-is ∙ apart up i p))
       (drop-drop 64 (64 * i) (drop up p) ∙ ap (λ (m : ℕ). drop m (drop up p)) f)
 
   pub ahead-end : (i : ℕ) → up ≤ i → ahead up p i ≡ true

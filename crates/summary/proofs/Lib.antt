@@ -1,4 +1,3 @@
 pub mod Layers
-pub mod Last
 pub mod Answers
 pub mod Said

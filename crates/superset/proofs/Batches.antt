@@ -8,7 +8,7 @@ use Rattle.store.specs.Layout.{isStore}
 use Rattle.store.specs.Word.{Words64}
 use Rattle.fill.specs.declared.Batch.{Batch}
 use Rattle.iter.specs.declared.Cursor.{Cursor}
-use Rattle.iter.specs.Calls.{startedOf}
+use Rattle.starts.specs.Calls.{startedOf}
 use Rattle.batches.specs.Steps.{walked, goesOn}
 use Rattle.batches.proofs.Batches.{ahead, At, Turn, at-start, parts, nothing-ahead}
 use Rattle.superset.specs.Calls.{allHeld}

@@ -10,8 +10,8 @@ use Rattle.store.specs.Answer.{askedPaper}
 use Rattle.store.specs.Layout.{isStore}
 use Rattle.store.specs.declared.Asked.{Asked}
 use Rattle.store.specs.declared.Asked.the-variants.{Is, Refused}
-use Rattle.members.specs.Calls.{containsOf}
-use Rattle.superset.specs.Calls.{isMember, allHeld}
+use Rattle.members.specs.Calls.{isMember, containsOf}
+use Rattle.superset.specs.Calls.{allHeld}
 
 -- the value of an answer; no for a refusal
 abbrev pub said : Asked → Bool
@@ -20,7 +20,7 @@ said (Refused n) = false
 
 -- on a store `contains` says whether the id is a member
 pub contains-says : (s : List ℕ) (i : ℕ) → isStore s ≡ true → {r x : Asked} → Settled askedPaper (containsOf s i) r tt → r ≡ x → said x ≡ isMember s i
-unfolding containsOf isMember
+unfolding containsOf
 contains-says s i h {r} {x} a e =
     let o : containsOf s i ≡ record { numbers = askedPaper .numbers (Is (isMember s i)); lent = tt } = rw h in
     ap said (sym e ∙ settles {r′ = Is (isMember s i)} a (settled o) .0)

@@ -5,35 +5,25 @@ use mathlib.Core.List.List·Memᴰ.{List·Memᴰ·head, List·Memᴰ·tail}
 use mathlib.Core.Logic.{_↔_, ⊎-elim}
 use mathlib.Core.Path.{_≡_, refl, sym, ap, ap₂, subst}
 use Prim.Native.Nat.{ℕ}
-use borrow.Author.Tests.{eq-eqb, eqb-true, lt-ltb, ltb-true}
-use lib.Dec.{ltb}
 use Rattle.util.specs.Outcome.{Settled, settles}
 use Rattle.util.proofs.Same.{both}
 use Rattle.store.specs.Answer.{askedPaper}
 use Rattle.store.specs.Layout.{cap, isStore}
-use Rattle.store.specs.Word.{on, Member, Sound, Words64}
+use Rattle.store.specs.Word.{Member, Sound, Words64}
 use Rattle.store.specs.declared.Asked.the-variants.{Is}
 use Rattle.store.proofs.Geometry.{store-is}
 use Rattle.store.proofs.Members.{members-are}
-use Rattle.members.specs.Calls.{holds}
+use Rattle.members.specs.Calls.{isMember}
+use Rattle.members.proofs.Tested.{is-member}
 use Rattle.iter.specs.declared.Cursor.{Cursor}
 use Rattle.demand.specs.Walks.{walkOn}
 use Rattle.demand.proofs.Store.{walk-defined, ids-members}
 use Rattle.batches.specs.Steps.{walked}
-use Rattle.superset.specs.Calls.{isMember, allHeld, containsSetOf}
+use Rattle.superset.specs.Calls.{allHeld, containsSetOf}
 use Rattle.superset.proofs.Answers.{said-is}
 use Rattle.superset.proofs.Held.{said}
 
--- the test of one id
-member-of : (s : List ℕ) (i : ℕ) → isMember s i ≡ true → Member s i
-unfolding isMember
-member-of s i e = let b = both (ltb i (cap s)) (holds (cap s) s i) e in record { below = ltb-true i (cap s) (b .0); held = eqb-true (on (cap s) s 0 i) 1 (b .1) }
-
-of-member : (s : List ℕ) (i : ℕ) → Member s i → isMember s i ≡ true
-unfolding isMember
-of-member s i m = ap₂ (λ (a b : Bool). a && b) (lt-ltb i (cap s) (m .below)) (eq-eqb (on (cap s) s 0 i) 1 (m .held))
-
--- and of a list
+-- the test of a list of ids
 held-each : (s l : List ℕ) → (allHeld s l ≡ true) ↔ ((i : ℕ) → List·Memᴰ i l → Member s i)
 unfolding allHeld
 held-each s [] = (λ e i m. absurd (List·Memᴰ·not-nil m), λ h. refl)
@@ -41,8 +31,8 @@ held-each s (x ∷ l) =
     let ih = held-each s l in (
       λ e i m.
           let b = both (isMember s x) (allHeld s l) e in
-          ⊎-elim (λ (q : i ≡ x). subst (Member s) (sym q) (member-of s x (b .0))) (λ (q : List·Memᴰ i l). ih .0 (b .1) i q) (List·Memᴰ·cases-cons m),
-      λ h. ap₂ (λ (a b : Bool). a && b) (of-member s x (h x (List·Memᴰ·head refl))) (ih .1 (λ i m. h i (List·Memᴰ·tail m))),
+          ⊎-elim (λ (q : i ≡ x). subst (Member s) (sym q) (is-member s x .0 (b .0))) (λ (q : List·Memᴰ i l). ih .0 (b .1) i q) (List·Memᴰ·cases-cons m),
+      λ h. ap₂ (λ (a b : Bool). a && b) (is-member s x .1 (h x (List·Memᴰ·head refl))) (ih .1 (λ i m. h i (List·Memᴰ·tail m))),
     )
 
 -- ---- stores of one capacity, sound or not

@@ -2,18 +2,14 @@
 use mathlib.Core.Bool.{Bool, true, cond, _&&_}
 use mathlib.Core.List.{List, [], _∷_}
 use Prim.Native.Nat.{ℕ}
-use lib.Dec.{ltb, eqb}
+use lib.Dec.{eqb}
 use Rattle.util.specs.Outcome.{Outcome}
 use Rattle.store.specs.Answer.{says, refuses}
 use Rattle.store.specs.Layout.{cap, isStore}
-use Rattle.members.specs.Calls.{holds}
+use Rattle.members.specs.Calls.{isMember}
 use Rattle.batches.specs.Steps.{walked}
 
--- "An id is a member if it is below N and its layer-0 bit is set."
-unfoldable pub isMember : List ℕ → ℕ → Bool
-isMember s i = ltb i (cap s) && holds (cap s) s i
-
--- so for every id of a list
+-- every id of a list is a member
 unfoldable pub allHeld : List ℕ → List ℕ → Bool
 allHeld s [] = true
 allHeld s (i ∷ l) = let r = allHeld s l in (isMember s i && r)

@@ -4,8 +4,9 @@ ghost use mathlib.Core.Path.{_≡_};
 ghost use Rattle.util.specs.Outcome.{Settled};
 ghost use Rattle.store.specs.Answer.{askedPaper};
 ghost use Rattle.store.specs.Layout.{isStore};
+ghost use Rattle.members.specs.Calls.{isMember};
 ghost use Rattle.batches.specs.Steps.{walked};
-ghost use Rattle.superset.specs.Calls.{isMember, allHeld, containsSetOf};
+ghost use Rattle.superset.specs.Calls.{allHeld, containsSetOf};
 use store::Asked;
 
 // Whether a store has an id as a member.
@@ -40,7 +41,7 @@ fn all_walked(store: &[u64], other: &[u64]) -> bool
     ensures { λ r. ⌜ r ≡ allHeld (now (store .entry)) (walked (now (other .entry))) ⌝ }
 {
     let mut ids = [0u32; 64];
-    let mut c = iter::started(other);
+    let mut c = starts::started(other);
     loop {
         let b = fill::fill(c, other, batches::BUDGET, &mut ids);
         let n = b.count;

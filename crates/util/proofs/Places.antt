@@ -1,9 +1,9 @@
 -- The numbers at which a function is not 0, and the set bits of a word as the case that all walks go by.
-use mathlib.Core.Path.{_≡_, refl, sym, ap, ap₂, _∙_, subst}
-use mathlib.Core.Logic.{_≢_, _⊎_, inl, inr, ⊎-elim}
+use mathlib.Core.Path.{_≡_, refl, sym, ap, ap₂, _∙_}
+use mathlib.Core.Logic.{_≢_, _↔_, _⊎_, inl, inr, ⊎-elim}
 use mathlib.Core.List.{List, [], _∷_, _++_, List·Memᴰ, List·Memᴰ·cases-cons, List·Memᴰ·not-nil}
 use mathlib.Core.List.List·Memᴰ.{List·Memᴰ·head, List·Memᴰ·tail}
-use Prim.Native.Nat.{ℕ, zero, suc, _+_, _-_, _*_, _/_, _%_, _^_, _≤_, _<_}
+use Prim.Native.Nat.{ℕ, zero, suc, _+_, _-_, _/_, _%_, _^_, _≤_, _<_}
 use native.Mathlib.Nat.{add-zero, pow-suc}
 use native.Mathlib.Decide.{ℕ-discrete}
 use native.Mathlib.Omega.{arith}
@@ -170,6 +170,27 @@ lowest w h p = let l = lowest-in 64 w h p in record { inside = l .0; on = l .1; 
 -- a word that is not 0 has a set bit
 pub some-bit : (w : ℕ) → w < 2 ^ 64 → w ≢ 0 → (b : ℕ) × (b < 64) × (bit w b ≡ 1)
 some-bit w h n = let l = lowest w h (omega arith) in (trailingZeros 64 w, l .inside, l .on)
+
+-- a word without its lowest set bit has one less, and only 0 has none
+count-lowest : (w : ℕ) → w < 2 ^ 64 → 0 < w → count w ≡ suc (count (w - 2 ^ trailingZeros 64 w))
+count-lowest w h p = sym (length-bits w) ∙ ap length (bits-lowest w (trailingZeros 64 w) h (lowest w h p)) ∙ ap suc (length-bits (w - 2 ^ trailingZeros 64 w))
+
+pub count-none : (w : ℕ) → w < 2 ^ 64 → (w ≡ 0) ↔ (count w ≡ 0)
+count-none w h = (
+  λ e. sym (length-bits w) ∙ ap (λ (x : ℕ). length (bits x)) e ∙ ap length bits-zero,
+  λ e. go (ℕ-discrete w 0) e,
+)
+  where
+    go : Dec (w ≡ 0) → count w ≡ 0 → w ≡ 0
+    go (yes z) e = z
+    go (no n) e = absurd (omega (arith, count-lowest w h (omega arith)))
+
+pub count-less : (w : ℕ) → w < 2 ^ 64 → count (w - 2 ^ trailingZeros 64 w) ≡ count w - 1
+count-less w h = go (ℕ-discrete w 0)
+  where
+    go : Dec (w ≡ 0) → count (w - 2 ^ trailingZeros 64 w) ≡ count w - 1
+    go (yes z) = let e : w - 2 ^ trailingZeros 64 w ≡ w = omega arith in ap count e ∙ omega (arith, count-none w h .0 z)
+    go (no n) = omega (arith, count-lowest w h (omega arith))
 
 -- ---- what is in the list, and that it rises
 

@@ -1,7 +1,7 @@
 -- The test of two lists, both ways, and the Bool laws that tests go by.
 use mathlib.Core.Bool.{Bool, true, false, _&&_, true≢false}
 use mathlib.Core.List.{List, [], _∷_}
-use mathlib.Core.Path.{_≡_, refl, sym, ap₂, _∙_}
+use mathlib.Core.Path.{_≡_, refl, sym, ap₂}
 use Prim.Native.Nat.{ℕ}
 use borrow.Author.Tests.{eq-eqb, eqb-true}
 use lib.Dec.{eqb}
@@ -10,11 +10,6 @@ use Rattle.util.specs.Word.{same}
 pub both : (a b : Bool) → (a && b) ≡ true → (a ≡ true) × (b ≡ true)
 both true b e = (refl, e)
 both false b e = absurd (true≢false (sym e))
-
-pub not-both : (a b : Bool) → (a ≡ true → b ≡ true → ⊥) → (a && b) ≡ false
-not-both true true h = absurd (h refl refl)
-not-both true false h = refl
-not-both false b h = refl
 
 pub same-refl : (s : List ℕ) → same s s ≡ true
 unfolding same

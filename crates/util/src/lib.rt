@@ -1,7 +1,6 @@
 // Bits and shifts: the Rust's util.rs on 64-bit words.
 ghost use mathlib.Core.Path.{_≡_};
-ghost use Prim.Native.Nat.{_-_, _%_, _^_};
-ghost use lib.Count.{trailingZeros};
+ghost use Prim.Native.Nat.{_%_};
 ghost use lib.Dec.{eqb};
 ghost use Rattle.util.specs.Word.{bit, change};
 ghost use Rattle.util.specs.Row.{offsetOf, rowOf, maskOf, offsetsOf};
@@ -9,14 +8,14 @@ ghost use Rattle.util.specs.Row.{offsetOf, rowOf, maskOf, offsetsOf};
 // Base two log of the number of bits in a word.
 pub const BITS: usize = 6;
 
-// The shift of each layer above layer 0.
+// The shift of each layer, from the bottom up. `offsets` fixes them all, and with them the number of bits.
 pub const SHIFT0: usize = 0;
 
-pub const SHIFT1: usize = 6;
+pub const SHIFT1: usize = SHIFT0 + BITS;
 
-pub const SHIFT2: usize = 12;
+pub const SHIFT2: usize = SHIFT1 + BITS;
 
-pub const SHIFT3: usize = 18;
+pub const SHIFT3: usize = SHIFT2 + BITS;
 
 // The words of the layers 0, 1 and 2 that an id's bits stand in.
 pub struct Parents {
@@ -74,14 +73,4 @@ pub fn with_bit(w: u64, b: usize, on: bool) -> u64
 {
     let m = 1u64 << (b % 64);
     if on { w | m } else { w & !m }
-}
-
-// The word without its lowest set bit; 0 stays 0.
-pub fn drop_lowest(w: u64) -> u64
-    ensures { λ r. ⌜ r ≡ w - 2 ^ trailingZeros 64 w ⌝ }
-{
-    if w == 0 {
-        return 0;
-    }
-    w & (w - 1)
 }

@@ -10,7 +10,8 @@ use Rattle.iter.specs.declared.Step.{Step}
 use Rattle.desk.specs.Slots.{numberOf, partOf}
 use Rattle.said.specs.Numbers.{unknown, Left, left}
 use Rattle.said.specs.declared.Said.{Said}
-use Rattle.cursors.specs.Cursors.{isCursor, cursorOf, steppedOf}
+use Rattle.cursors.specs.Cursors.{isCursor, cursorOf}
+use Rattle.putback.specs.Putback.{steppedOf}
 use Rattle.walks.specs.Calls.{startWord, nextWord, walkOf, takesOf, fitsOf, changeOf}
 
 -- ---- the step

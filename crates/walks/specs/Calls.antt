@@ -4,7 +4,8 @@ use mathlib.Core.List.{List}
 use Prim.Native.Nat.{ℕ}
 use lib.Dec.{eqb, leb}
 use Rattle.desk.specs.Slots.{numberOf, isSlot, partOf}
-use Rattle.cursors.specs.Cursors.{isCursor, cursorOf, steppedOf}
+use Rattle.cursors.specs.Cursors.{isCursor, cursorOf}
+use Rattle.putback.specs.Putback.{steppedOf}
 use Rattle.iter.specs.Calls.{startIn, nextIn}
 use Rattle.iter.specs.declared.Step.{Step}
 use Rattle.said.specs.Numbers.{unknown, Left, left}

@@ -61,7 +61,7 @@ pub fn change(desk: &mut [u64], word: u64, count: usize) -> Said
         let k = t.cursor;
         let a = t.answer;
         let r = t.reads;
-        return cursors::stepped(desk, c, k, a, r);
+        return putback::stepped(desk, c, k, a, r);
     }
     said::unknown()
 }

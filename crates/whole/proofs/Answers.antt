@@ -1,22 +1,22 @@
 -- What each way out of the code answers is what the definition answers there.
-use mathlib.Core.Bool.{true, false, cond}
-use mathlib.Core.List.{List, []}
+use mathlib.Core.Bool.{true, false}
+use mathlib.Core.List.{List}
 use mathlib.Core.Logic.{_≢_}
-use mathlib.Core.Path.{_≡_, refl, sym, ap, _∙_}
-use Prim.Native.Nat.{ℕ, suc, _+_, _-_, _≤_, _<_}
+use mathlib.Core.Path.{_≡_, sym, ap, _∙_}
+use Prim.Native.Nat.{ℕ, suc, _+_, _-_}
 use native.Mathlib.Omega.{arith}
 use borrow.Author.Tests.{eq-eqb, ne-eqb}
-use lib.Dec.{leb, eqb}
+use lib.Dec.{eqb}
 use lib.ListN.{length, getD, set, replicate}
-use Rattle.util.specs.Outcome.{Outcome, Settled, settled}
-use Rattle.store.specs.Answer.{askedPaper, didPaper, says, does, refuses}
+use Rattle.util.specs.Outcome.{Settled, settled}
+use Rattle.store.specs.Answer.{askedPaper, didPaper, does}
 use Rattle.store.specs.Build.{empty}
-use Rattle.store.specs.Layout.{header, top, maxCap, isCap, room, layerEnd, storeLen, cap, isStore, StoreOf, endOf}
+use Rattle.store.specs.Layout.{top, isCap, layerEnd, storeLen, isStore, StoreOf, endOf}
 use Rattle.store.specs.Word.{word}
 use Rattle.store.specs.declared.Asked.the-variants.{Is, Refused as AskedRefused}
 use Rattle.store.specs.declared.Did.the-variants.{Done, Refused as DidRefused}
-use Rattle.store.proofs.Ends.{end-is, end-cap, end-above}
-use Rattle.store.proofs.Geometry.{is-store, after-header, end-top, room-falls}
+use Rattle.store.proofs.Ends.{end-is, end-cap}
+use Rattle.store.proofs.Geometry.{is-store, after-header, room-falls}
 use Rattle.store.proofs.Words.{word-in}
 use Rattle.whole.specs.Calls.{openOf, clearOf, isEmptyOf}
 

@@ -1,39 +1,36 @@
 -- `chunkmap::put_entry` meets its contract. Assumes nothing.
 use mathlib.Core.List.{List}
-use mathlib.Core.Path.{refl, sym, ap, _∙_}
+use mathlib.Core.Path.{ap, _∙_}
 use Prim.Native.Nat.{ℕ, _+_, _≤_}
 use native.Mathlib.Omega.{arith}
 use borrow.Author.Needs.{needs}
 use lib.Count.{ones, ones-le}
 use lib.ListN.{length}
 use lib.Seq.{sets, length-sets}
-use Rattle.store.proofs.Build.{flag-zero, flag-one}
 use Rattle.le.specs.Bytes.{le}
-use Rattle.chunkmap.proofs.Bytes.{entry-none, entry-some}
+use Rattle.chunkmap.proofs.Entries.{entered-zero, entered-one, room-one}
 use Rattle.chunkmap.proofs.put_entry.Statement.{statement}
 use Rattle.chunkmap.proofs.put_entry.Tie as tie
 
 returns : tie.Need-returns
-returns c =
-    let a = c .before .before .args in (
-      omega (arith, flag-zero (a .x) (c .if1 .taken)),
-      (omega (arith, ones-le 0 (a .x) (omega (arith, c .if1 .taken))), sym (entry-none (a .buf .now) (a .o) (a .q) (a .x) (c .if1 .taken))),
-    )
+returns c = entered-zero (c .if1 .taken)
+
+-- a word that is not zero has room
+here : (c : tie.Else1) → c .before .before .args .o + 12 ≤ length (c .before .before .args .buf .now)
+here c = room-one (c .before .before .pre) (c .if1 .left)
 
 put-requires : tie.Need-put-requires
-put-requires c κs =
-    let n = c .before in
-    omega (arith, flag-one (n .before .before .args .x) (n .if1 .left), n .before .before .pre .bytes)
+put-requires c κs = omega (arith, here (c .before))
 
 add-put : tie.Need-add-put
 add-put c = search needs
 
 put-requires-2 : tie.Need-put-requires-2
 put-requires-2 c κs =
-    let p1 = c .before .before .before in
-    let n = p1 .before .before in
+    let p = c .before .before .before in
+    let n = p .before .before in
     let a = n .before .before .args in
-    omega (arith, flag-one (a .x) (n .if1 .left), n .before .before .pre .bytes, ap length (p1 .put .ensures), length-sets (a .buf .now) (a .o) (le 4 (a .q)))
+    omega (arith, here n, ap length (p .put .ensures), length-sets (a .buf .now) (a .o) (le 4 (a .q)))
 
 -- a word has 64 members at most
 few : (c : tie.Start) → ones (c .args .x) ≤ 64
@@ -56,14 +53,9 @@ returns-2 c =
     let p2 = c .before .before in
     let p1 = p2 .before .before .before .before in
     let n = p1 .before .before in
-    let a = n .before .before .args in (
-      omega (arith, flag-one (a .x) (n .if1 .left)),
-      (
-        refl,
-        p2 .put2 .ensures ∙ ap (λ (x : List ℕ). sets x (a .o + 4) (le 8 (a .x))) (p1 .put .ensures)
-            ∙ sym (entry-some (a .buf .now) (a .o) (a .q) (a .x) (n .if1 .left)),
-      ),
-    )
+    let s = n .before .before in
+    let a = s .args in
+    entered-one (n .if1 .left) (omega (arith, s .fits .x)) (p2 .put2 .ensures ∙ ap (λ (x : List ℕ). sets x (a .o + 4) (le 8 (a .x))) (p1 .put .ensures))
 
 pub put-entry-spec : {M : Type 1} → statement M
 put-entry-spec =

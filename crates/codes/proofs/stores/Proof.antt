@@ -1,6 +1,7 @@
 -- `codes::stores` meets its contract. Assumes nothing.
 use borrow.Author.Needs.{needs}
 use denote.Ref.{now}
+use Rattle.store.specs.Layout.{StoreOf}
 use Rattle.store.proofs.Ends.{some-store, no-store}
 use Rattle.codes.proofs.Answers.{stores-2, stores-first}
 use Rattle.codes.proofs.stores.Statement.{statement}
@@ -15,17 +16,21 @@ returns c =
     let a = y .before .before .before .before .before .args in
     stores-2 (a .s0 .now) (a .s1 .now) (a .s2 .now) (a .s3 .now) (no-store (a .s0 .now) (y .capacity .ensures) (c .if1 .taken))
 
+-- store 0, behind the test
+first : (c : tie.Else1) → StoreOf (c .before .capacity .result) (c .before .before .before .before .before .before .args .s0 .now)
+first c = let y = c .before in some-store (y .before .before .before .before .before .args .s0 .now) (y .capacity .ensures) (c .if1 .left)
+
 beside-requires : tie.Need-beside-requires
-beside-requires c κs = search needs
+beside-requires c κs = let z = first c in (z .some, z .most, z .long)
 
 beside-requires-2 : tie.Need-beside-requires-2
-beside-requires-2 c κs = search needs
+beside-requires-2 c κs = let z = first (c .before) in (z .some, z .most, z .long)
 
 sooner-requires : tie.Need-sooner-requires
 sooner-requires c κs = search needs
 
 beside-requires-3 : tie.Need-beside-requires-3
-beside-requires-3 c κs = search needs
+beside-requires-3 c κs = let z = first (c .before .before .before) in (z .some, z .most, z .long)
 
 sooner-requires-2 : tie.Need-sooner-requires-2
 sooner-requires-2 c κs = search needs
@@ -39,7 +44,7 @@ returns-2 c =
     let e = x1 .before in
     let y = e .before in
     let a = y .before .before .before .before .before .args in
-    stores-first (a .s0 .now) (a .s1 .now) (a .s2 .now) (a .s3 .now) (some-store (a .s0 .now) (y .capacity .ensures) (e .if1 .left))
+    stores-first (a .s0 .now) (a .s1 .now) (a .s2 .now) (a .s3 .now) (first e)
     (x1 .beside .ensures) (x2 .beside2 .ensures) (x3 .beside3 .ensures) (o .sooner .ensures) (c .sooner2 .ensures)
 
 pub stores-spec : {M : Type 1} → statement M

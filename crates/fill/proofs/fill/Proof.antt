@@ -60,7 +60,7 @@ returns-2 c =
     let h = taken-here (l2 .before) in
     let a = l2 .before .before .before .before .before .before .args in
     fill-answered (a .out .now)
-    (fill-lent (h .0) (a .c) (l2 .layer2-as-slice .ensures) (l1 .layer1-as-slice .ensures) (l0 .layer0-as-slice .ensures) (h .1) (a .budget) (length (a .out .now)))
+    (fill-lent (h .0) (a .c) (l2 .layer2-as-slice .ensures .words) (l1 .layer1-as-slice .ensures .words) (l0 .layer0-as-slice .ensures .words) (h .1) (a .budget) (length (a .out .now)))
     (f .fill-in .ensures)
 
 pub fill-spec : {M : Type 1} → statement M

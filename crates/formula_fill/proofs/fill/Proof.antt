@@ -1,8 +1,8 @@
 -- `formula_fill::fill` meets its contract: a pair over the layers of its stores, any other codes by the machine. Assumes nothing.
 use mathlib.Core.Path.{sym, _∙_}
 use Rattle.iter.proofs.Cursors.{fine-of}
-use Rattle.machine.specs.Steps.{Pair}
-use Rattle.machine.proofs.Arms.{pair-of}
+use Rattle.pairs.specs.Pairs.{Pair}
+use Rattle.pairs.proofs.Laws.{pair-of}
 use Rattle.formula_iter.proofs.Answers.{none-refused}
 use Rattle.formula_fill.proofs.Answers.{fill-refused, fill-joins, fill-runs}
 use borrow.Author.Needs.{needs}

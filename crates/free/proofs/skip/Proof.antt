@@ -2,7 +2,7 @@
 use Prim.Native.Nat.{_-_}
 use native.Mathlib.Omega.{arith}
 use lib.ListN.{length}
-use Rattle.free.specs.Steps.{full, Skipped}
+use Rattle.free.specs.Steps.{Skipped}
 use Rattle.free.proofs.Words.{and-full, skipped-start, skipped-eight}
 use Rattle.free.proofs.skip.Statement.{statement}
 use Rattle.free.proofs.skip.Tie as tie

@@ -1,11 +1,11 @@
 -- `groups::leaf` meets its contract. Assumes nothing.
-use mathlib.Core.Path.{_≡_, sym, ap, _∙_}
+use mathlib.Core.Path.{sym, ap, _∙_}
 use Prim.Native.Nat.{_≤_}
 use native.Mathlib.Omega.{arith}
 use borrow.Author.Needs.{needs}
 use lib.ListN.{length, getD, set, List·getD-eq-default}
 use lib.Seq.{getD-set-same, set-out}
-use Rattle.groups.specs.Op.{opWord}
+use Rattle.operation.specs.Op.{opWord}
 use Rattle.groups.proofs.leaf.Statement.{statement}
 use Rattle.groups.proofs.leaf.Tie as tie
 

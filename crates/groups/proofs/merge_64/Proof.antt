@@ -1,5 +1,5 @@
 -- `groups::merge_64` meets its contract: the first words are merged, the rest are as they were. Assumes nothing.
-use Prim.Native.Nat.{ℕ, _-_}
+use Prim.Native.Nat.{_-_}
 use native.Mathlib.Numerals.{add-one}
 use native.Mathlib.Omega.{arith}
 use borrow.Author.Needs.{needs}

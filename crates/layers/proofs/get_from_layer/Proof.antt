@@ -1,7 +1,7 @@
 -- `layers::get_from_layer` meets its contract. Assumes nothing.
 use mathlib.Core.List.{List}
-use mathlib.Core.Path.{_≡_, ap, _∙_}
-use Prim.Native.Nat.{ℕ, _≤_}
+use mathlib.Core.Path.{ap, _∙_}
+use Prim.Native.Nat.{ℕ}
 use native.Mathlib.Omega.{arith}
 use borrow.Author.Needs.{needs}
 use lib.ListN.{getD}
@@ -42,7 +42,7 @@ returns-3 c =
     let t = c .before in
     let e = t .before .before in
     let a = e .before .before .before .before .args in
-    word-top (store-here (e .before)) (a .layer) (a .idx) _ (t .if3 .taken) (c .get .ensures ∙ ap (λ (l : List ℕ). getD l 0 0) (t .before .part .ensures))
+    word-top (store-here (e .before)) (a .layer) (a .idx) _ (t .if3 .taken) (c .get .ensures ∙ ap (λ (l : List ℕ). getD l 0 0) (t .before .part .ensures .words))
 
 get-requires-2 : tie.Need-get-requires-2
 get-requires-2 c κs = search needs
@@ -53,7 +53,7 @@ returns-4 c =
     let t = c .before in
     let e = t .before .before in
     let a = e .before .before .before .before .args in
-    word-is (store-here (e .before)) (a .layer) (a .idx) _ (omega (arith, t .if3 .left)) (c .get2 .ensures ∙ ap (λ (l : List ℕ). getD l (a .idx) 0) (t .before .part .ensures))
+    word-is (store-here (e .before)) (a .layer) (a .idx) _ (omega (arith, t .if3 .left)) (c .get2 .ensures ∙ ap (λ (l : List ℕ). getD l (a .idx) 0) (t .before .part .ensures .words))
 
 pub get-from-layer-spec : {M : Type 1} → statement M
 get-from-layer-spec =

@@ -1,11 +1,11 @@
 -- `layers::part` meets its contract: the layer lies inside the store. Assumes nothing.
-use mathlib.Core.Path.{_≡_}
-use Prim.Native.Nat.{_≤_, _+_}
+use mathlib.Core.Path.{refl}
+use Prim.Native.Nat.{_≤_}
 use native.Mathlib.Omega.{arith}
 use borrow.Author.Needs.{needs}
 use lib.ListN.{length}
 use Rattle.store.specs.Layout.{top, StoreOf}
-use Rattle.store.proofs.Ends.{Part, part, some-store, no-store}
+use Rattle.store.proofs.Ends.{part, some-store, no-store}
 use Rattle.layers.proofs.Answers.{part-none, part-is}
 use Rattle.layers.proofs.part.Statement.{statement}
 use Rattle.layers.proofs.part.Tie as tie
@@ -20,7 +20,7 @@ returns : tie.Need-returns
 returns c =
     let t = c .before in
     let a = t .before .before .before .args in
-    part-none (a .store .now) (a .k) (no-store (a .store .now) (t .before .capacity .ensures) (t .if1 .taken))
+    part-none (a .store) _ (a .k) (no-store (a .store .now) (t .before .capacity .ensures) (t .if1 .taken)) refl refl
 
 -- past the test the slice is a store
 store-here : (c : tie.Else1) → StoreOf (c .before .capacity .result) (c .before .before .before .args .store .now)
@@ -62,7 +62,7 @@ returns-2 c =
     let b = c .before in
     let e = b .before .before in
     let s = e .before .before .before in
-    part-is (store-here e) (s .args .k) _ _ (s .pre) (b .before .end .ensures) (b .end2 .ensures)
+    part-is (s .args .store) _ (store-here e) (s .args .k) _ _ (s .pre) (b .before .end .ensures) (b .end2 .ensures) refl refl
 
 pub part-spec : {M : Type 1} → statement M
 part-spec =

@@ -28,13 +28,13 @@ unknown-requires : tie.Need-unknown-requires
 unknown-requires c κs = search needs
 
 returns : tie.Need-returns
-returns c = let l = c .before in c .measured .ensures ∙ layer-in _ _ _ (l .before .match .keys1) (omega arith) (l .layer0-as-slice .ensures)
+returns c = let l = c .before in c .measured .ensures ∙ layer-in _ _ _ (l .before .match .keys1) (omega arith) (l .layer0-as-slice .ensures .words)
 
 returns-2 : tie.Need-returns-2
-returns-2 c = let l = c .before in c .measured2 .ensures ∙ layer-in _ _ _ (l .before .match .keys2) (omega arith) (l .layer1-as-slice .ensures)
+returns-2 c = let l = c .before in c .measured2 .ensures ∙ layer-in _ _ _ (l .before .match .keys2) (omega arith) (l .layer1-as-slice .ensures .words)
 
 returns-3 : tie.Need-returns-3
-returns-3 c = let l = c .before in c .measured3 .ensures ∙ layer-in _ _ _ (l .before .match .keys3) (omega arith) (l .layer2-as-slice .ensures)
+returns-3 c = let l = c .before in c .measured3 .ensures ∙ layer-in _ _ _ (l .before .match .keys3) (omega arith) (l .layer2-as-slice .ensures .words)
 
 returns-4 : tie.Need-returns-4
 returns-4 c = c .unknown .ensures ∙ layer-no _ _ (search needs)

@@ -1,13 +1,12 @@
 -- `machine::three` meets its contract. Assumes nothing.
 use mathlib.Core.Path.{refl}
 use native.Mathlib.Omega.{arith}
-use Prim.Native.Nat.{_+_, _%_}
-use lib.ListN.{getD, set, length-set}
-use Rattle.machine.proofs.Arms.{turned-three}
+use lib.ListN.{length-set}
+use Rattle.machine.proofs.Arms.{turned-three, turned-four}
 use borrow.Author.Needs.{needs}
 use Rattle.machine.proofs.three.Statement.{statement}
 use Rattle.machine.proofs.three.Tie as tie
-use Rattle.machine.proofs.made.Reads as made-reads
+use Rattle.machine.proofs.joins_two.Reads as joins-two-reads
 
 shared-slice-read-x : tie.Need-shared-slice-read-x
 shared-slice-read-x c = search needs
@@ -36,56 +35,83 @@ mul-b c = search needs
 element-copy-out-b : tie.Need-element-copy-out-b
 element-copy-out-b c = search needs
 
+add-e : tie.Need-add-e
+add-e c = search needs
+
+add-f : tie.Need-add-f
+add-f c = search needs
+
 mul-stack : tie.Need-mul-stack
 mul-stack c = search needs
 
 slice-write-stack : tie.Need-slice-write-stack
 slice-write-stack c = search needs
 
-add-stack : tie.Need-add-stack
-add-stack c = search needs
-
 mul-stack-2 : tie.Need-mul-stack-2
 mul-stack-2 c = search needs
 
 slice-write-stack-2 : tie.Need-slice-write-stack-2
-slice-write-stack-2 c = let s = c .before .before .before .before .before .before in omega (arith, s .pre .1, length-set (s .args .stack .now) (s .args .d) (s .args .last))
-
-add-stack-2 : tie.Need-add-stack-2
-add-stack-2 c = search needs
+slice-write-stack-2 c = let s = c .before .before .before .before .before .before in simp length-set (omega (arith, s .pre .1))
 
 mul-stack-3 : tie.Need-mul-stack-3
 mul-stack-3 c = search needs
 
 slice-write-stack-3 : tie.Need-slice-write-stack-3
-slice-write-stack-3 c =
-    let s = c .before .before .before .before .before .before in
-    let v = s .args .stack .now in
-    let w = set v (s .args .d) (s .args .last) in
-    omega (arith, s .pre .1, length-set v (s .args .d) (s .args .last), length-set w ((s .args .d + 1) % 8) (getD (s .args .words .now) (getD (s .args .codes .now) (s .args .j) 0) 0))
+slice-write-stack-3 c = let s = c .before .before .before .before .before .before in simp length-set (omega (arith, s .pre .1))
 
-add-made : tie.Need-add-made
-add-made c = search needs
+add-joined : tie.Need-add-joined
+add-joined c = search needs
 
-shared-slice-read-made : tie.Need-shared-slice-read-made
-shared-slice-read-made c = search needs
+shared-slice-read-joined : tie.Need-shared-slice-read-joined
+shared-slice-read-joined c = search needs
 
-made-requires : tie.Need-made-requires
-made-requires c κs = search needs
+joined-requires : tie.Need-joined-requires
+joined-requires c κs = search needs
 
-add-t15 : tie.Need-add-t15
-add-t15 c = search needs
+add-joins-two : tie.Need-add-joins-two
+add-joins-two c = search needs
 
-add-t28 : tie.Need-add-t28
-add-t28 c = search needs
+joins-two-requires : tie.Need-joins-two-requires
+joins-two-requires c κs = search needs
+
+mul-stack-4 : tie.Need-mul-stack-4
+mul-stack-4 c = search needs
+
+slice-write-stack-4 : tie.Need-slice-write-stack-4
+slice-write-stack-4 c = let s = c .before .before .before .before .before .before .before .before .before .before in simp length-set (omega (arith, s .pre .1))
+
+add-joined-2 : tie.Need-add-joined-2
+add-joined-2 c = search needs
+
+shared-slice-read-joined-2 : tie.Need-shared-slice-read-joined-2
+shared-slice-read-joined-2 c = let t = c .before in t .before .joins-two .ensures (t .if1 .taken) .there
+
+joined-requires-2 : tie.Need-joined-requires-2
+joined-requires-2 c κs = search needs
+
+add-t35 : tie.Need-add-t35
+add-t35 c = search needs
 
 same-length : tie.Need-same-length
 same-length c = search needs
 
 returns : tie.Need-returns
 returns c =
-    let s = c .before .before .before .before .before .before .before .before in
-    turned-three _ _ _ _ _ _ _ _ (s .pre .0) (s .pre .1) (s .pre .2) _ _ _ refl refl (c .made .ensures)
+    let t = c .before .before in
+    let s = t .before .before .before .before .before .before .before .before .before .before in
+    turned-four _ _ _ _ _ _ _ _ (s .pre .0) (s .pre .1) (s .pre .2) _ _ _ _ (t .before .joins-two .ensures (t .if1 .taken)) refl refl (t .before .before .joined .ensures) (c .joined2 .ensures)
+
+add-t18 : tie.Need-add-t18
+add-t18 c = search needs
+
+same-length-2 : tie.Need-same-length-2
+same-length-2 c = search needs
+
+returns-2 : tie.Need-returns-2
+returns-2 c =
+    let j = c .before .before in
+    let s = j .before .before .before .before .before .before .before .before in
+    turned-three _ _ _ _ _ _ _ _ (s .pre .0) (s .pre .1) (s .pre .2) _ _ _ refl refl (j .joined .ensures)
 
 pub three-spec : {M : Type 1} → statement M
 three-spec =
@@ -100,18 +126,27 @@ three-spec =
     element-copy-out-a
     mul-b
     element-copy-out-b
+    add-e
+    add-f
     mul-stack
     slice-write-stack
-    add-stack
     mul-stack-2
     slice-write-stack-2
-    add-stack-2
     mul-stack-3
     slice-write-stack-3
-    add-made
-    shared-slice-read-made
-    made-requires
-    add-t15
-    add-t28
+    add-joined
+    shared-slice-read-joined
+    joined-requires
+    add-joins-two
+    joins-two-requires
+    mul-stack-4
+    slice-write-stack-4
+    add-joined-2
+    shared-slice-read-joined-2
+    joined-requires-2
+    add-t35
     same-length
-    returns)
+    returns
+    add-t18
+    same-length-2
+    returns-2)

@@ -56,8 +56,8 @@ returns-2 c =
     let e = a2 .before in
     let a = e .before .before .before .before .before .args in
     pair-runs (a .code) (a .a .now) (a .b .now) (a .c) (a .budget) (a .out .now) (e .before .refusal .ensures) (e .if1 .left)
-    (a2 .layer2-as-slice .ensures) (a1 .layer1-as-slice .ensures) (a0 .layer0-as-slice .ensures)
-    (b2 .layer2-as-slice2 .ensures) (b1 .layer1-as-slice2 .ensures) (b0 .layer0-as-slice2 .ensures) (f .fill-in .ensures)
+    (a2 .layer2-as-slice .ensures .words) (a1 .layer1-as-slice .ensures .words) (a0 .layer0-as-slice .ensures .words)
+    (b2 .layer2-as-slice2 .ensures .words) (b1 .layer1-as-slice2 .ensures .words) (b0 .layer0-as-slice2 .ensures .words) (f .fill-in .ensures)
 
 pub fill-spec : {M : Type 1} → statement M
 fill-spec =

@@ -3,7 +3,7 @@ use mathlib.Core.Path.{ap₂, _∙_}
 use Prim.Native.Nat.{ℕ}
 use lib.ListN.{getD}
 use Rattle.iter.proofs.Cursors.{lowers-by}
-use Rattle.pair_fill.specs.Pair.{joined}
+use Rattle.codes.specs.Tree.{joined}
 use borrow.Author.Needs.{needs}
 use Rattle.pair_fill.proofs.read.Statement.{statement}
 use Rattle.pair_fill.proofs.read.Tie as tie

@@ -45,7 +45,8 @@ use denote.Triple.Spec.{Meets, tripleOf}
 use denote.Triple.Table.{entered, cited}
 use denote.Triple.Walked.{says, Stays, stay-none, stay-none-slice, walkOf, goes-none, goes-none-slice, Walks, ends-at, walked, walk-meets}
 use denote.Exit.{yes}
-use Rattle.iter.specs.Calls.{startedOf, nextIn}
+use Rattle.iter.specs.Calls.{nextIn}
+use Rattle.starts.specs.Calls.{startedOf}
 use Rattle.reader.specs.Readers.{told}
 use Rattle.reader.specs.declared.BitIter.{BitIter}
 use Rattle.iter.specs.declared.Cursor.{Cursor}

@@ -40,17 +40,17 @@ use denote.Triple.Spec.{Meets, tripleOf}
 use denote.Triple.Table.{entered, cited}
 use denote.Triple.Walked.{says, Stays, stay-none-slice, walkOf, goes-none-slice, Walks, ends-at, walked, walk-meets}
 use denote.Exit.{yes}
-use Rattle.iter.specs.Calls.{startedOf}
+use Rattle.starts.specs.Calls.{startedOf}
 use Rattle.reader.specs.declared.BitIter.{BitIter}
 use Rattle.iter.specs.declared.Cursor.{Cursor}
 use Rattle.reader.proofs.BitIter as T
 use Rattle.reader.proofs.BitIter.Laws as T′
 use Rattle.iter.proofs.Cursor as Cu
 use Rattle.iter.proofs.Cursor.Laws as Cu′
-use Rattle.iter.proofs.started as started
-use Rattle.iter.proofs.started.Symbol as started-def
-use Rattle.iter.proofs.started.Symbol.{name as #iter·started}
-use Rattle.iter.proofs.started.Met as started-thm
+use Rattle.starts.proofs.started as started
+use Rattle.starts.proofs.started.Symbol as started-def
+use Rattle.starts.proofs.started.Symbol.{name as #starts·started}
+use Rattle.starts.proofs.started.Met as started-thm
 use Rattle.reader.proofs.iter.Key.{name as #reader·iter}
 use Rattle.reader.proofs.iter as iter
 use Rattle.reader.proofs.iter.Statement as stated
@@ -133,7 +133,7 @@ module _ {M : Type 1} (𝓤 : URA M) (H : Heap 𝓤) (A : Atoms 𝓤) (W : Given
       nothing ! $ owned ! Cu.the-row (Is Cu.the-row) (LL.makes Cu.the-type Cu′.the-plain 𝓤 H A) c (vc c ∷ []) is $ fjoin ! $ move ! (1 ∷ 0 ∷ []) $
       fjoin ! $ by ! (own-shut 𝓤 H A W D L (s, (c, tt)))
 
-  module _ (C : Calls 𝓤 H) (Λ : Loops 𝓤 H) (fm : FmC 𝓤 H (W .laws) C) (known : Triple 𝓤 (C #iter·started) (Started 𝓤 H A mem run)) where
+  module _ (C : Calls 𝓤 H) (Λ : Loops 𝓤 H) (fm : FmC 𝓤 H (W .laws) C) (known : Triple 𝓤 (C #starts·started) (Started 𝓤 H A mem run)) where
     walk : Is (ShrSlice (named 0) κ u64) s (v ∷ [])
         → ent 𝓤 (onEntry 𝓤 H A iter.signature (κ, tt) (q, tt) (s, tt) at) (WpFn 𝓤 H C Λ code.function (v ∷ []) Post)
     walk p =
@@ -158,14 +158,14 @@ module _ {M : Type 1} (𝓤 : URA M) (H : Heap 𝓤) (A : Atoms 𝓤) (W : Given
         by ! (exits r (cursor-is r u is₀) e))))))))
 
 module _ {M : Type 1} (𝓤 : URA M) (H : Heap 𝓤) (A : Atoms 𝓤) (W : Given 𝓤 H A) (mem : Memory → SProp 𝓤) (run : Routine → Fun 𝓤) where
-  iter-walks : (C : Calls 𝓤 H) (Λ : Loops 𝓤 H) → FmC 𝓤 H (W .laws) C → Triple 𝓤 (C #iter·started) (Started 𝓤 H A mem run)
+  iter-walks : (C : Calls 𝓤 H) (Λ : Loops 𝓤 H) → FmC 𝓤 H (W .laws) C → Triple 𝓤 (C #starts·started) (Started 𝓤 H A mem run)
       → Walks 𝓤 H A iter.ended stayed (WpFn 𝓤 H C Λ code.function) (iter.clauses 𝓤 H A mem run)
   iter-walks C Λ fm known = walked 𝓤 H A iter.ended stayed (iter.clauses 𝓤 H A mem run) (WpFn 𝓤 H C Λ code.function) (λ κs. (slice-vals, tt))
       (λ κs. (shr-slice-tells (named 0) (κs .0) u64, tt))
       (λ κs qs bounds a g are. via 𝓤 _ (fst∗ 𝓤 _ (emp 𝓤)) (walk 𝓤 H A W mem run (κs .0) (qs .0) (a .0) C Λ fm known (are .0)))
 
 iter-meets : {M : Type 1} (𝓤 : URA M) (H : Heap 𝓤) (A : Atoms 𝓤) (W : Given 𝓤 H A) (mem : Memory → SProp 𝓤) (run : Routine → Fun 𝓤) (𝓣 : Tables 𝓤 H)
-    → Triple 𝓤 (𝓣 .C #iter·started) (Started 𝓤 H A mem run)
+    → Triple 𝓤 (𝓣 .C #starts·started) (Started 𝓤 H A mem run)
     → Meets 𝓤 H A iter.signature (WpFn 𝓤 H (𝓣 .C) (𝓣 .Λ) code.function) (iter.spec 𝓤 H A mem run)
 iter-meets 𝓤 H A W mem run 𝓣 known = walk-meets 𝓤 H A iter.ended stayed W (goes-none-slice 𝓤 H A W 1 (0 ∷ []) tt (plain (λ _. u64)) yes, tt)
     (iter.clauses 𝓤 H A mem run) (WpFn 𝓤 H (𝓣 .C) (𝓣 .Λ) code.function) (WpFn-mono 𝓤 H (W .laws) 𝓣 code.function)
@@ -177,5 +177,5 @@ iter-spec 𝓤 H 𝓜 𝓖 𝓡 =
     entered 𝓤 H (tripleOf 𝓤 H (𝓖 .A) iter.signature (iter.spec 𝓤 H (𝓖 .A) (𝓜 .mem) (𝓡 .run)))
     (tables 𝓤 H 𝓜 𝓡 code.env .C) (tables 𝓤 H 𝓜 𝓡 code.env .Λ) #reader·iter code.function (code.unfolded 𝓤 H 𝓜 𝓡)
     (iter-meets 𝓤 H (𝓖 .A) (givenOf 𝓤 H 𝓜 𝓖) (𝓜 .mem) (𝓡 .run) (tablesOf 𝓤 H 𝓜 (tables 𝓤 H 𝓜 𝓡 code.env))
-    (cited 𝓤 H (Started 𝓤 H (𝓖 .A) (𝓜 .mem) (𝓡 .run)) 𝓜 𝓡 code.env #iter·started started-def.routine code.calls-iter·started
+    (cited 𝓤 H (Started 𝓤 H (𝓖 .A) (𝓜 .mem) (𝓡 .run)) 𝓜 𝓡 code.env #starts·started started-def.routine code.calls-starts·started
     (started-thm.met 𝓤 H 𝓜 𝓖 𝓡)))

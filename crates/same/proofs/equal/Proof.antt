@@ -1,5 +1,4 @@
 -- `same::equal` meets its contract. Assumes nothing.
-use mathlib.Core.Path.{_≡_}
 use borrow.Author.Needs.{needs}
 use Rattle.store.specs.Layout.{StoreOf}
 use Rattle.store.proofs.Ends.{some-store, no-store}

@@ -1,6 +1,5 @@
 -- `store::capacity` meets its contract: word 0 names a capacity and the slice has its length, or it is no store. Assumes nothing.
 use mathlib.Core.Bool.{true}
-use mathlib.Core.List.{List}
 use mathlib.Core.Path.{_≡_, sym, ap, _∙_}
 use Prim.Native.Nat.{ℕ}
 use Rattle.store.specs.Layout.{cap, isCap, endOf}

@@ -1,9 +1,10 @@
 -- `summary::summarize` meets its contract: what is left to be written gives the whole. Assumes nothing.
-use Prim.Native.Nat.{_-_, _<_}
+use Prim.Native.Nat.{_+_, _-_, _*_, _<_}
 use native.Mathlib.Numerals.{add-one}
 use native.Mathlib.Omega.{arith}
+use borrow.Author.Needs.{needs}
 use lib.ListN.{length}
-use Rattle.summary.proofs.Layers.{Written, two-kept, written-start, written-turn, written-end}
+use Rattle.summary.proofs.Layers.{Written, begins, two-kept, written-start, written-turn, written-end}
 use Rattle.summary.proofs.summarize.Statement.{statement}
 use Rattle.summary.proofs.summarize.Tie as tie
 
@@ -16,10 +17,21 @@ abbrev μ-loop : tie.MeasureT-loop
 loop-holds : tie.Need-loop-holds Inv-loop μ-loop
 loop-holds c = written-start (c .before .pre)
 
-summary-word-requires : tie.Need-summary-word-requires Inv-loop μ-loop
-summary-word-requires c κs =
-    let d = c .before in
-    (two-kept (d .before .before .before .pre) (d .before .loop .inv), d .loop-test .taken)
+-- the words below it begin there
+under : (c : tie.In-loop Inv-loop μ-loop) → c .before .before .before .args .up + 64 * c .before .loop .i < length (c .before .loop .part)
+under c =
+    let h = c .before in
+    let z = h .before .before .pre in
+    begins (two-kept z (h .loop .inv)) (h .loop .i) (c .loop-test .taken)
+
+mul-gather : tie.Need-mul-gather Inv-loop μ-loop
+mul-gather c = omega (arith, under (c .before))
+
+add-gather : tie.Need-add-gather Inv-loop μ-loop
+add-gather c = omega (arith, under (c .before))
+
+gather-requires : tie.Need-gather-requires Inv-loop μ-loop
+gather-requires c κs = search needs
 
 -- the word stands in the part
 inside : (c : tie.In-loop Inv-loop μ-loop) → c .before .loop .i < length (c .before .loop .part)
@@ -40,7 +52,7 @@ loop-less c = omega (arith, c .before .before .loop-test .taken)
 loop-again : tie.Need-loop-again Inv-loop μ-loop
 loop-again c =
     let d = c .before .before in
-    rw add-one (written-turn (d .before .before .before .pre) (d .before .loop .inv) (d .loop-test .taken) (c .summary-word .result) (c .summary-word .ensures))
+    rw add-one (written-turn (d .before .before .before .pre) (d .before .loop .inv) (d .loop-test .taken) (c .gather .result) (c .gather .ensures))
 
 same-length : tie.Need-same-length Inv-loop μ-loop
 same-length c = c .before .loop .inv .long
@@ -55,7 +67,9 @@ summarize-spec =
     Inv-loop
     μ-loop
     loop-holds
-    summary-word-requires
+    mul-gather
+    add-gather
+    gather-requires
     mul-part
     slice-write-part
     add-i

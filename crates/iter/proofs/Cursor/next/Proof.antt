@@ -52,7 +52,7 @@ returns-2 c =
     let l2 = l1 .before in
     let h = taken-here (l2 .before) in
     let a = l2 .before .before .before .before .before .args in
-    answered (c .run .ensures ∙ next-lent (h .0) (a .self) (l2 .layer2-as-slice .ensures) (l1 .layer1-as-slice .ensures) (l0 .layer0-as-slice .ensures) (h .1) (a .budget))
+    answered (c .run .ensures ∙ next-lent (h .0) (a .self) (l2 .layer2-as-slice .ensures .words) (l1 .layer1-as-slice .ensures .words) (l0 .layer0-as-slice .ensures .words) (h .1) (a .budget))
 
 pub next-spec : {M : Type 1} → statement M
 next-spec =

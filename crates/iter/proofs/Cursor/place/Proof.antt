@@ -1,62 +1,16 @@
 -- `iter::Cursor::place` meets its contract. Assumes nothing.
-use Prim.Native.Nat.{_%_}
-use native.Mathlib.Omega.{arith}
 use Rattle.iter.specs.Walk.{placeAt}
-use Rattle.iter.proofs.Cursors.{prefix-below, prefix-top}
 use borrow.Author.Needs.{needs}
 use Rattle.iter.proofs.Cursor.place.Statement.{statement}
 use Rattle.iter.proofs.Cursor.place.Tie as tie
-use Rattle.iter.proofs.behind.Reads as behind-reads
+use Rattle.levels.proofs.place.Reads as place-reads
 
-mul-behind : tie.Need-mul-behind
-mul-behind c = search needs
-
-array-read-behind : tie.Need-array-read-behind
-array-read-behind c = search needs
-
-behind-requires : tie.Need-behind-requires
-behind-requires c κs = search needs
+place-requires : tie.Need-place-requires
+place-requires c κs = search needs
 
 returns : tie.Need-returns
 unfolding placeAt
-returns c =
-    let a = c .before .before .before .args in
-    let e = c .behind .ensures in
-    (omega (arith, e .0, prefix-top 3 (a .self .prefix) (a .k % 4) (omega (arith, c .before .if1 .taken))), e .1)
-
-mul-behind-2 : tie.Need-mul-behind-2
-mul-behind-2 c = search needs
-
-array-read-behind-2 : tie.Need-array-read-behind-2
-array-read-behind-2 c = search needs
-
-mul-behind-3 : tie.Need-mul-behind-3
-mul-behind-3 c = search needs
-
-array-read-behind-3 : tie.Need-array-read-behind-3
-array-read-behind-3 c = search needs
-
-behind-requires-2 : tie.Need-behind-requires-2
-behind-requires-2 c κs = search needs
-
-returns-2 : tie.Need-returns-2
-unfolding placeAt
-returns-2 c =
-    let a = c .before .before .before .before .args in
-    let e = c .behind2 .ensures in
-    (omega (arith, e .0, prefix-below 3 (a .self .prefix) (a .k % 4) (omega (arith, c .before .before .if1 .left))), e .1)
+returns c = c .place .ensures
 
 pub place-spec : {M : Type 1} → statement M
-place-spec =
-    tie.close
-    (tie.spec
-    mul-behind
-    array-read-behind
-    behind-requires
-    returns
-    mul-behind-2
-    array-read-behind-2
-    mul-behind-3
-    array-read-behind-3
-    behind-requires-2
-    returns-2)
+place-spec = tie.close (tie.spec place-requires returns)

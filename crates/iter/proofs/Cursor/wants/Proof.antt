@@ -1,63 +1,17 @@
--- `iter::Cursor::wants` meets its contract: the masks before the one that is met are 0. Assumes nothing.
-use mathlib.Core.Bool.{Bool, true, false, not, cond}
-use mathlib.Core.Path.{_≡_, refl, sym, ap, _∙_}
-use Prim.Native.Nat.{ℕ}
-use lib.Dec.{eqb}
-use lib.ListN.{getD}
-use Rattle.iter.specs.Steps.{isReading}
-use Rattle.iter.specs.Walk.{lowFrom, kindOf}
-use Rattle.iter.proofs.Cursors.{low-pass, low-stop}
+-- `iter::Cursor::wants` meets its contract. Assumes nothing.
+use mathlib.Core.Path.{_∙_}
+use Rattle.iter.specs.Walk.{lowLayer}
+use Rattle.iter.proofs.Cursors.{reading-between}
 use borrow.Author.Needs.{needs}
 use Rattle.iter.proofs.Cursor.wants.Statement.{statement}
 use Rattle.iter.proofs.Cursor.wants.Tie as tie
+use Rattle.levels.proofs.wants.Reads as wants-reads
 
--- whether a word has to be read, by the lowest layer with a mask
-abbrev asks : ℕ → Bool
-asks l = isReading (kindOf 3 l)
-
-last : (b : Bool) → not b ≡ asks (cond b 4 3)
-last true = refl
-last false = refl
-
-array-read-if1 : tie.Need-array-read-if1
-array-read-if1 c = search needs
+wants-requires : tie.Need-wants-requires
+wants-requires c κs = search needs
 
 returns : tie.Need-returns
-returns c = ap asks (sym (low-stop _ 0 3 (c .if1 .taken)))
-
-array-read-if2 : tie.Need-array-read-if2
-array-read-if2 c = search needs
-
-returns-2 : tie.Need-returns-2
-returns-2 c = ap asks (sym (low-pass _ 0 3 (c .before .if1 .left) ∙ low-stop _ 1 2 (c .if2 .taken)))
-
-array-read-if3 : tie.Need-array-read-if3
-array-read-if3 c = search needs
-
-returns-3 : tie.Need-returns-3
-returns-3 c =
-    let e = c .before in
-    ap asks (sym (low-pass _ 0 3 (e .before .if1 .left) ∙ low-pass _ 1 2 (e .if2 .left) ∙ low-stop _ 2 1 (c .if3 .taken)))
-
-array-read-result : tie.Need-array-read-result
-array-read-result c = search needs
-
-returns-4 : tie.Need-returns-4
-unfolding lowFrom
-returns-4 c =
-    let e = c .before in
-    let ms = e .before .before .before .args .self .masks in
-    last (eqb (getD ms 3 0) 0) ∙ ap asks (sym (low-pass ms 0 3 (e .before .if1 .left) ∙ low-pass ms 1 2 (e .if2 .left) ∙ low-pass ms 2 1 (c .if3 .left)))
+returns c = c .wants .ensures ∙ reading-between 3 (lowLayer 3 (c .before .before .args .self))
 
 pub wants-spec : {M : Type 1} → statement M
-wants-spec =
-    tie.close
-    (tie.spec
-    array-read-if1
-    returns
-    array-read-if2
-    returns-2
-    array-read-if3
-    returns-3
-    array-read-result
-    returns-4)
+wants-spec = tie.close (tie.spec wants-requires returns)

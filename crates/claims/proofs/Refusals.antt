@@ -1,0 +1,353 @@
+-- DEMAND 1: "A refusal has a fixed number and alters nothing lent." Of every public call, for all inputs.
+use mathlib.Core.Bool.{Bool, true, false, cond, _&&_}
+use mathlib.Core.List.{List, [], _∷_}
+use mathlib.Core.Logic.{_≢_}
+use mathlib.Core.Path.{_≡_, refl, sym, ap, _∙_, subst}
+use Prim.Native.Nat.{ℕ, zero, suc, _-_, _≤_, min}
+use native.Mathlib.Omega.{arith}
+use lib.Dec.{leb, ltb, eqb}
+use lib.ListN.{length, getD}
+use denote.Ref.{now}
+use Rattle.util.specs.Outcome.{Outcome, Paper, Settled}
+use Rattle.store.specs.Answer.{askedPaper, didPaper, foundPaper, readPaper, refuses}
+use Rattle.store.specs.Layout.{top, isCap, storeLen, cap, isStore}
+use Rattle.store.specs.declared.Asked.the-variants.{Refused as AskedRefused}
+use Rattle.store.specs.declared.Did.{Did}
+use Rattle.store.specs.declared.Did.the-variants.{Refused as DidRefused}
+use Rattle.store.specs.declared.Found.the-variants.{Refused as FoundRefused}
+use Rattle.store.specs.declared.Read.the-variants.{Refused as ReadRefused}
+use Rattle.layers.specs.Calls.{wordOf, layerPart}
+use Rattle.members.specs.Calls.{containsOf}
+use Rattle.bitset.specs.Calls.{moveOf, addOf, removeOf, allBelow, addListOf}
+use Rattle.whole.specs.Calls.{openOf, clearOf, isEmptyOf}
+use Rattle.summary.specs.Calls.{rebuildOf}
+use Rattle.soundness.specs.Calls.{isSoundOf}
+use Rattle.free.specs.Calls.{freeFrom, firstOf, firstFreeOf}
+use Rattle.same.specs.Calls.{equalOf}
+use Rattle.superset.specs.Calls.{containsSetOf}
+use Rattle.iter.specs.declared.Cursor.{Cursor}
+use Rattle.iter.specs.declared.Next.{Next}
+use Rattle.iter.specs.declared.Next.the-variants.{Member, Paused, End, Refused as NextRefused}
+use Rattle.iter.specs.declared.Step.{Step}
+use Rattle.iter.specs.Calls.{stepPaper, written, refused, fits, startIn, nextIn}
+use Rattle.iter.specs.Walk.{Kind, kind, byKind, paused, more, descend, next as walkNext}
+use Rattle.iter.specs.Walk.Kind.{gives as givesOne, reads, done}
+use Rattle.starts.specs.Calls.{startedOf}
+use Rattle.reader.specs.Readers.{told}
+use Rattle.fill.specs.declared.Stop.the-variants.{Refused as StopRefused}
+use Rattle.fill.specs.Fill.{Filled, batchPaper, batch, filled, stopped, goOn, fillFrom, fillIn}
+use Rattle.codes.specs.Tree.{nth}
+use Rattle.codes.specs.Codes.{isFormula}
+use Rattle.codes.specs.Check.{besideOf, sooner, storesOf, checkOf}
+use Rattle.formula.specs.Calls.{capOf, layerWordOf, containsOf as formulaContainsOf, isEmptyOf as formulaIsEmptyOf}
+use Rattle.formula_iter.specs.Calls.{refusalIn, startIn as formulaStartIn, nextIn as formulaNextIn}
+use Rattle.formula_fill.specs.Calls.{fillIn as formulaFillIn}
+use Rattle.merging.specs.Calls.{isPair, assignOf, Assigned}
+use Rattle.chunkmap.specs.Answer.{wrotePaper}
+use Rattle.chunkmap.specs.Calls.{writeOf}
+use Rattle.chunkmap.specs.Map.{wordsIn, mapLen}
+use Rattle.chunkmap.specs.declared.Wrote.the-variants.{Refused as WroteRefused}
+use Rattle.mapread.specs.Calls.{readOf}
+use Rattle.mapread.specs.Judge.{capIn, countIn, usedIn, table, headOk, good, total, judgeOf}
+use Rattle.util.proofs.Same.{both}
+use Rattle.claims.specs.Calls.Call.{«open», add, remove, contains, addList, isEmpty, clear, containsSet, equal, getFromLayer, layerAsSlice, averageOnes, firstFree, isSound, rebuild, bitorAssign, bitandAssign, bitxorAssign, start, next, fill, containsF, isEmptyF, getFromLayerF, startF, nextF, fillF, write, read, iterR, nextR, firstR}
+use Rattle.claims.specs.Calls.{Answer, Memory, Meets, refusal, Refuses, Refused, Call, promiseOf, partPaper, partOf, noBatch, toldPaper, toldRefused, toldOf, moved}
+
+-- what holds of both cases holds of the one chosen
+by-cond : {A : Type 0} (P : A → Type 0) (b : Bool) {x y : A} → P x → P y → P (cond b x y)
+by-cond P true p q = p
+by-cond P false p q = q
+
+-- ---- one outcome
+
+-- where its first number is not 0, the outcome is a refusal
+record Stays {R X : Type 0} (p : Paper R) (f : ℕ → R) (x : X) (o : Outcome X) : Type 0 where
+  known : getD (o .numbers) 0 0 ≤ 12
+  numbers : getD (o .numbers) 0 0 ≢ 0 → o .numbers ≡ p .numbers (f (getD (o .numbers) 0 0))
+  lent : getD (o .numbers) 0 0 ≢ 0 → o .lent ≡ x
+
+module _ {R X : Type 0} {p : Paper R} {f : ℕ → R} {x : X} where
+  goes : {o : Outcome X} → getD (o .numbers) 0 0 ≡ 0 → Stays p f x o
+  goes e = record { known = omega arith; numbers = λ n. absurd (n e); lent = λ n. absurd (n e) }
+
+  stays : (n : ℕ) → n ≤ 12 → p .numbers (f n) ≡ n ∷ [] → Stays p f x (refuses n x)
+  stays n h e = record { known = h; numbers = λ z. sym e; lent = λ z. refl }
+
+  choose : (b : Bool) {o o′ : Outcome X} → Stays p f x o → Stays p f x o′ → Stays p f x (cond b o o′)
+  choose = by-cond (Stays p f x)
+
+  -- the answer and the memory that meet the outcome
+  refuses-so : {o : Outcome X} → Stays p f x o → {r : R} {y : X} → Settled p o r y → getD (p .numbers r) 0 0 ≢ 0
+      → Refuses f x (getD (p .numbers r) 0 0) r y
+  refuses-so {o} k {r} s n =
+      let e : getD (p .numbers r) 0 0 ≡ getD (o .numbers) 0 0 = ap (λ (l : List ℕ). getD l 0 0) (s .answer) in
+      let m : getD (o .numbers) 0 0 ≢ 0 = λ z. n (e ∙ z) in
+      record {
+        known = subst (λ (i : ℕ). i ≤ 12) (sym e) (k .known);
+        answer =
+            sym (p .same r) ∙ ap (p .answer) (s .answer ∙ k .numbers m) ∙ p .same (f (getD (o .numbers) 0 0))
+            ∙ ap f (sym e);
+        memory = s .memory ∙ k .lent m;
+      }
+
+-- ---- calls on one store
+
+open-stays : (s : List ℕ) (n : ℕ) → Stays didPaper DidRefused s (openOf s n)
+unfolding openOf
+open-stays s n = choose (isCap n) (choose (eqb (length s) (storeLen n)) (goes refl) (stays 2 (omega arith) refl)) (stays 1 (omega arith) refl)
+
+add-stays : (s : List ℕ) (i : ℕ) → Stays askedPaper AskedRefused s (addOf s i)
+unfolding moveOf
+add-stays s i = choose (isStore s) (choose (ltb i (cap s)) (goes refl) (stays 3 (omega arith) refl)) (stays 2 (omega arith) refl)
+
+remove-stays : (s : List ℕ) (i : ℕ) → Stays askedPaper AskedRefused s (removeOf s i)
+unfolding moveOf
+remove-stays s i = choose (isStore s) (choose (ltb i (cap s)) (goes refl) (goes refl)) (stays 2 (omega arith) refl)
+
+contains-stays : (s : List ℕ) (i : ℕ) → Stays askedPaper AskedRefused tt (containsOf s i)
+unfolding containsOf
+contains-stays s i = choose (isStore s) (goes refl) (stays 2 (omega arith) refl)
+
+list-stays : (s ids : List ℕ) → Stays didPaper DidRefused s (addListOf s ids)
+unfolding addListOf
+list-stays s ids = choose (isStore s) (choose (allBelow (cap s) ids) (goes refl) (stays 3 (omega arith) refl)) (stays 2 (omega arith) refl)
+
+empty-stays : (s : List ℕ) → Stays askedPaper AskedRefused tt (isEmptyOf s)
+unfolding isEmptyOf
+empty-stays s = choose (isStore s) (goes refl) (stays 2 (omega arith) refl)
+
+clear-stays : (s : List ℕ) → Stays didPaper DidRefused s (clearOf s)
+unfolding clearOf
+clear-stays s = choose (isStore s) (goes refl) (stays 2 (omega arith) refl)
+
+set-stays : (s t : List ℕ) → Stays askedPaper AskedRefused tt (containsSetOf s t)
+unfolding containsSetOf
+set-stays s t = choose (isStore s && isStore t) (choose (eqb (cap s) (cap t)) (goes refl) (stays 5 (omega arith) refl)) (stays 2 (omega arith) refl)
+
+equal-stays : (s t : List ℕ) → Stays askedPaper AskedRefused tt (equalOf s t)
+unfolding equalOf
+equal-stays s t = choose (isStore s && isStore t) (choose (eqb (cap s) (cap t)) (goes refl) (stays 5 (omega arith) refl)) (stays 2 (omega arith) refl)
+
+word-stays : (s : List ℕ) (k i : ℕ) → Stays readPaper ReadRefused tt (wordOf s k i)
+unfolding wordOf
+word-stays s k i = choose (isStore s) (choose (leb k (top (cap s))) (goes refl) (stays 4 (omega arith) refl)) (stays 2 (omega arith) refl)
+
+part-stays : (s : List ℕ) (k : ℕ) → Stays partPaper (λ n. []) tt (partOf s k)
+part-stays s k = go (layerPart s k)
+  where
+    go : (l : List ℕ) → Stays {X = Unit {0}} partPaper (λ n. []) tt (record { numbers = partPaper .numbers l; lent = tt })
+    go [] = record { known = omega arith; numbers = λ n. refl; lent = λ n. refl }
+    go (w ∷ l) = goes refl
+
+free-stays : (s : List ℕ) → Stays foundPaper FoundRefused tt (firstFreeOf s)
+unfolding firstFreeOf
+free-stays s = choose (isStore s) (go (freeFrom (cap s) s 0)) (stays 2 (omega arith) refl)
+  where
+    go : (l : List ℕ) → Stays foundPaper FoundRefused tt (firstOf l)
+    go [] = stays 12 (omega arith) refl
+    go (i ∷ l) = goes refl
+
+sound-stays : (s : List ℕ) → Stays askedPaper AskedRefused tt (isSoundOf s)
+unfolding isSoundOf
+sound-stays s = choose (isStore s) (goes refl) (stays 2 (omega arith) refl)
+
+rebuild-stays : (s : List ℕ) → Stays didPaper DidRefused s (rebuildOf s)
+unfolding rebuildOf
+rebuild-stays s = choose (isStore s) (goes refl) (stays 2 (omega arith) refl)
+
+-- ---- in place: a refusal is none of two stores of equal capacity, and then all is settled
+
+assign-stays : (op : ℕ) (s t : List ℕ) → Stays didPaper DidRefused s (assignOf op s t)
+unfolding assignOf
+assign-stays op s t = choose (isStore s && isStore t) (choose (eqb (cap s) (cap t)) (goes refl) (stays 5 (omega arith) refl)) (stays 2 (omega arith) refl)
+
+pair-goes : (op : ℕ) (s t : List ℕ) → isPair s t ≡ true → getD (assignOf op s t .numbers) 0 0 ≡ 0
+unfolding isPair assignOf
+pair-goes op s t h = let b = both (isStore s && isStore t) (eqb (cap s) (cap t)) h in rw (b .0, b .1)
+
+assign-refuses : (op : ℕ) (s t : List ℕ) {r : Did} {y : List ℕ} → Assigned op s t r y → getD (didPaper .numbers r) 0 0 ≢ 0
+    → Refuses DidRefused s (getD (didPaper .numbers r) 0 0) r y
+assign-refuses op s t v n =
+    let e = ap (λ (l : List ℕ). getD l 0 0) (v .answer) in
+    refuses-so (assign-stays op s t) (v .whole (λ h. absurd (n (e ∙ pair-goes op s t h)))) n
+
+-- ---- walks: no step after the tests refuses
+
+abbrev number : Step → ℕ
+number a = getD (stepPaper .numbers a) 0 0
+
+kind-goes : (t : ℕ) (c : Cursor) (f : ℕ → Step) (k : Kind) → ((j : ℕ) → number (f j) ≡ 0) → number (byKind t c f k) ≡ 0
+kind-goes t c f givesOne h = refl
+kind-goes t c f (reads j) h = h j
+kind-goes t c f done h = refl
+
+next-goes : (lw : ℕ → ℕ → ℕ) (t b : ℕ) (c : Cursor) → number (walkNext lw t b c) ≡ 0
+unfolding walkNext
+next-goes lw t zero c = kind-goes t c (λ j. paused c) (kind t c) (λ j. refl)
+next-goes lw t (suc b) c = kind-goes t c (λ j. more 1 (walkNext lw t b (descend lw t j c))) (kind t c) (λ j. next-goes lw t b (descend lw t j c))
+
+abbrev numberIn : Filled → ℕ
+numberIn f = getD (batchPaper .numbers (batch f)) 0 0
+
+on-goes : (a : Step) (on : Cursor → Filled) → number a ≡ 0 → ((c : Cursor) → numberIn (on c) ≡ 0) → numberIn (goOn (a .answer) (a .reads) (a .cursor) on) ≡ 0
+on-goes a on e h = go (a .answer) e
+  where
+    go : (n : Next) → number (record { cursor = a .cursor; reads = a .reads; answer = n }) ≡ 0 → numberIn (goOn n (a .reads) (a .cursor) on) ≡ 0
+    go (Member v) z = h (a .cursor)
+    go Paused z = refl
+    go End z = refl
+    go (NextRefused n) z = z
+
+fill-goes : (lw : ℕ → ℕ → ℕ) (t m b : ℕ) (c : Cursor) → numberIn (fillFrom lw t m b c) ≡ 0
+unfolding fillFrom
+fill-goes lw t zero b c = refl
+fill-goes lw t (suc m) b c =
+    let a = walkNext lw t b c in
+    on-goes a (fillFrom lw t m (b - a .reads)) (next-goes lw t b c) (λ d. fill-goes lw t m (b - a .reads) d)
+
+module _ (c : Cursor) where
+  abbrev StepStays : Step → Type 0
+  StepStays a = Stays stepPaper (λ n. refused n c) tt (written a)
+
+  no-step : (n : ℕ) → n ≤ 12 → StepStays (refused n c)
+  no-step n h = record { known = h; numbers = λ z. refl; lent = λ z. refl }
+
+  module _ (out : List ℕ) where
+    abbrev FillStays : Filled → Type 0
+    FillStays f = Stays batchPaper (noBatch c) out (filled f out)
+
+    no-fill : (n : ℕ) → n ≤ 12 → FillStays (stopped (StopRefused n) 0 c)
+    no-fill n h = record { known = h; numbers = λ z. refl; lent = λ z. refl }
+
+start-stays : (s : List ℕ) (c : Cursor) → StepStays c (startIn s c)
+unfolding startIn
+start-stays s c = by-cond (StepStays c) (isStore s) (goes refl) (no-step c 2 (omega arith))
+
+next-stays : (s : List ℕ) (c : Cursor) (b : ℕ) → StepStays c (nextIn s c b)
+unfolding nextIn
+next-stays s c b =
+    by-cond (StepStays c) (isStore s)
+    (by-cond (StepStays c) (fits (top (cap s)) c) (goes (next-goes _ _ b c)) (no-step c 7 (omega arith)))
+    (no-step c 2 (omega arith))
+
+fill-stays : (s : List ℕ) (c : Cursor) (b : ℕ) (out : List ℕ) → FillStays c out (fillIn s c b (length out))
+unfolding fillIn
+fill-stays s c b out =
+    by-cond (FillStays c out) (isStore s)
+    (by-cond (FillStays c out) (fits (top (cap s)) c) (goes (fill-goes _ _ (length out) b c)) (no-fill c out 7 (omega arith)))
+    (no-fill c out 2 (omega arith))
+
+-- a reader's step refuses where the step does, and what is lent then has the cursor that was given
+told-stays : {X : Type 0} (s : List ℕ) (c : Cursor) (b : ℕ) (at : Cursor → X) → Stays toldPaper toldRefused (at c) (toldOf (nextIn s c b) at)
+told-stays s c b at =
+    let k = next-stays s c b in
+    let a = nextIn s c b in
+    let same : number a ≢ 0 → a ≡ refused (number a) c =
+    λ n. sym (stepPaper .same a) ∙ ap (stepPaper .answer) (k .numbers n) ∙ stepPaper .same (refused (number a) c) in
+    record {
+      known = k .known;
+      numbers = λ n. ap (λ (z : Step). toldPaper .numbers (told z)) (same n);
+      lent = λ n. ap (λ (z : Step). at (z .cursor)) (same n);
+    }
+
+-- ---- formulas: the refusal of the stores, of the codes, of a cursor
+
+sooner-le : (a b k : ℕ) → a ≤ k → b ≤ k → sooner a b ≤ k
+unfolding sooner
+sooner-le a b k h g = by-cond (λ n. n ≤ k) (eqb a 0) g (by-cond (λ n. n ≤ k) (eqb b 0) h (let e : min a b ≤ k = omega arith in e))
+
+beside-le : (N : ℕ) (s : List ℕ) → besideOf N s ≤ 5
+unfolding besideOf
+beside-le N s =
+    by-cond (λ n. n ≤ 5) (eqb (length s) 0) (omega arith) (by-cond (λ n. n ≤ 5) (isStore s) (by-cond (λ n. n ≤ 5) (eqb (cap s) N) (omega arith) (omega arith)) (omega arith))
+
+stores-le : (ss : List (List ℕ)) → storesOf ss ≤ 5
+unfolding storesOf
+stores-le ss =
+    by-cond (λ n. n ≤ 5) (isStore (nth ss 0)) (sooner-le _ _ 5 (sooner-le _ _ 5 (beside-le _ _) (beside-le _ _)) (beside-le _ _)) (omega arith)
+
+check-le : (ss : List (List ℕ)) (cs : List ℕ) → checkOf ss cs ≤ 6
+unfolding checkOf
+check-le ss cs = by-cond (λ n. n ≤ 6) (eqb (storesOf ss) 0) (by-cond (λ n. n ≤ 6) (isFormula ss cs) (omega arith) (omega arith)) (omega (arith, stores-le ss))
+
+refusal-le : (ss : List (List ℕ)) (cs : List ℕ) (c : Cursor) → refusalIn ss cs c ≤ 7
+unfolding refusalIn
+refusal-le ss cs c = by-cond (λ n. n ≤ 7) (eqb (checkOf ss cs) 0) (by-cond (λ n. n ≤ 7) (fits (top (capOf ss)) c) (omega arith) (omega arith)) (omega (arith, check-le ss cs))
+
+module _ (ss : List (List ℕ)) (cs : List ℕ) where
+  containsF-stays : (i : ℕ) → Stays askedPaper AskedRefused tt (formulaContainsOf ss cs i)
+  unfolding formulaContainsOf
+  containsF-stays i = choose (eqb (checkOf ss cs) 0) (goes refl) (stays _ (omega (arith, check-le ss cs)) refl)
+
+  emptyF-stays : Stays askedPaper AskedRefused tt (formulaIsEmptyOf ss cs)
+  unfolding formulaIsEmptyOf
+  emptyF-stays = choose (eqb (checkOf ss cs) 0) (goes refl) (stays _ (omega (arith, check-le ss cs)) refl)
+
+  wordF-stays : (k i : ℕ) → Stays readPaper ReadRefused tt (layerWordOf ss cs k i)
+  unfolding layerWordOf
+  wordF-stays k i =
+      choose (eqb (storesOf ss) 0) (choose (leb k (top (capOf ss))) (choose (isFormula ss cs) (goes refl) (stays 6 (omega arith) refl)) (stays 4 (omega arith) refl)) (stays _ (omega (arith, stores-le ss)) refl)
+
+  startF-stays : (c : Cursor) → StepStays c (formulaStartIn ss cs c)
+  unfolding formulaStartIn
+  startF-stays c = by-cond (StepStays c) (eqb (checkOf ss cs) 0) (goes refl) (no-step c _ (omega (arith, check-le ss cs)))
+
+  nextF-stays : (c : Cursor) (b : ℕ) → StepStays c (formulaNextIn ss cs c b)
+  unfolding formulaNextIn
+  nextF-stays c b = by-cond (StepStays c) (eqb (refusalIn ss cs c) 0) (goes (next-goes _ _ b c)) (no-step c _ (omega (arith, refusal-le ss cs c)))
+
+  fillF-stays : (c : Cursor) (b : ℕ) (out : List ℕ) → FillStays c out (formulaFillIn ss cs c b (length out))
+  unfolding formulaFillIn
+  fillF-stays c b out = by-cond (FillStays c out) (eqb (refusalIn ss cs c) 0) (goes (fill-goes _ _ (length out) b c)) (no-fill c out _ (omega (arith, refusal-le ss cs c)))
+
+-- ---- maps
+
+write-stays : (s m : List ℕ) → Stays wrotePaper WroteRefused m (writeOf s m)
+unfolding writeOf
+write-stays s m = choose (isStore s) (choose (leb (mapLen (wordsIn (cap s) s)) (length m)) (goes refl) (stays 8 (omega arith) refl)) (stays 2 (omega arith) refl)
+
+judge-le : (m : List ℕ) (N : ℕ) → judgeOf m N ≤ 11
+unfolding judgeOf
+judge-le m N =
+    by-cond (λ n. n ≤ 11) (headOk m) (by-cond (λ n. n ≤ 11) (eqb (capIn m) N) (by-cond (λ n. n ≤ 11) (good N 0 (usedIn m) (table m)) (by-cond (λ n. n ≤ 11) (eqb (total (usedIn m) (table m)) (countIn m)) (omega arith) (omega arith)) (omega arith)) (omega arith)) (omega arith)
+
+read-stays : (m s : List ℕ) → Stays didPaper DidRefused s (readOf m s)
+unfolding readOf
+read-stays m s = choose (isStore s) (choose (eqb (judgeOf m (cap s)) 0) (goes refl) (stays _ (omega (arith, judge-le m (cap s))) refl)) (stays 2 (omega arith) refl)
+
+-- ---- THE LIST: "Each returns its number and zeros elsewhere and changes nothing lent; a refused next hands back its cursor as given."
+
+pub refusals : (c : Call) (r : Answer (promiseOf c)) (y : Memory (promiseOf c)) → Meets (promiseOf c) r y → refusal (promiseOf c) r ≢ 0
+    → Refused (promiseOf c) r y
+refusals («open» s n) r y = refuses-so (open-stays s n)
+refusals (add s i) r y = refuses-so (add-stays s i)
+refusals (remove s i) r y = refuses-so (remove-stays s i)
+refusals (contains s i) r y = refuses-so (contains-stays s i)
+refusals (addList s ids) r y = refuses-so (list-stays s ids)
+refusals (isEmpty s) r y = refuses-so (empty-stays s)
+refusals (clear s) r y = refuses-so (clear-stays s)
+refusals (containsSet s t) r y = refuses-so (set-stays s t)
+refusals (equal s t) r y = refuses-so (equal-stays s t)
+refusals (getFromLayer s k i) r y = refuses-so (word-stays s k i)
+refusals (layerAsSlice s k) r y = refuses-so (part-stays s k)
+refusals (averageOnes w) r y = λ m n. n refl
+refusals (firstFree s) r y = refuses-so (free-stays s)
+refusals (isSound s) r y = refuses-so (sound-stays s)
+refusals (rebuild s) r y = refuses-so (rebuild-stays s)
+refusals (bitorAssign s t) r y = assign-refuses _ s t
+refusals (bitandAssign s t) r y = assign-refuses _ s t
+refusals (bitxorAssign s t) r y = assign-refuses _ s t
+refusals (start s c) r y = refuses-so (start-stays s c)
+refusals (next s c b) r y = refuses-so (next-stays s c b)
+refusals (fill s c b out) r y = refuses-so (fill-stays s c b out)
+refusals (containsF ss cs i) r y = refuses-so (containsF-stays ss cs i)
+refusals (isEmptyF ss cs) r y = refuses-so (emptyF-stays ss cs)
+refusals (getFromLayerF ss cs k i) r y = refuses-so (wordF-stays ss cs k i)
+refusals (startF ss cs c) r y = refuses-so (startF-stays ss cs c)
+refusals (nextF ss cs c b) r y = refuses-so (nextF-stays ss cs c b)
+refusals (fillF ss cs c b out) r y = refuses-so (fillF-stays ss cs c b out)
+refusals (write s m) r y = refuses-so (write-stays s m)
+refusals (read m s) r y = refuses-so (read-stays m s)
+refusals (iterR v) r y = λ m n. n refl
+refusals (nextR it b) r y = refuses-so (told-stays (now (it .store)) (it .cursor) b (moved it))
+refusals (firstR s b) r y = refuses-so (told-stays s (startedOf s) b (λ c. tt))

@@ -1,0 +1,22 @@
+-- `export_formula_ask::fen_formula_contains` meets its contract. Assumes nothing.
+use borrow.Author.Needs.{needs}
+use Rattle.store.specs.Answer.{askedPaper}
+use Rattle.abi.proofs.Tells.{tells}
+use Rattle.export_formula_ask.proofs.fen_formula_contains.Statement.{statement}
+use Rattle.export_formula_ask.proofs.fen_formula_contains.Tie as tie
+
+contains-requires : tie.Need-contains-requires
+contains-requires c κs = search needs
+
+asked-requires : tie.Need-asked-requires
+asked-requires c κs = search needs
+
+told-requires : tie.Need-told-requires
+told-requires c κs = search needs
+
+returns : tie.Need-returns
+returns c = tells askedPaper (c .before .before .contains .ensures) (c .before .asked .ensures) (c .told .ensures)
+
+pub fen-formula-contains-spec : {M : Type 1} → statement M
+fen-formula-contains-spec =
+    tie.close (tie.spec contains-requires asked-requires told-requires returns)

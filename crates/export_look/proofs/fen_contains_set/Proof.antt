@@ -1,0 +1,22 @@
+-- `export_look::fen_contains_set` meets its contract. Assumes nothing.
+use borrow.Author.Needs.{needs}
+use Rattle.store.specs.Answer.{askedPaper}
+use Rattle.abi.proofs.Tells.{tells}
+use Rattle.export_look.proofs.fen_contains_set.Statement.{statement}
+use Rattle.export_look.proofs.fen_contains_set.Tie as tie
+
+contains-set-requires : tie.Need-contains-set-requires
+contains-set-requires c κs = search needs
+
+asked-requires : tie.Need-asked-requires
+asked-requires c κs = search needs
+
+told-requires : tie.Need-told-requires
+told-requires c κs = search needs
+
+returns : tie.Need-returns
+returns c = tells askedPaper (c .before .before .contains-set .ensures) (c .before .asked .ensures) (c .told .ensures)
+
+pub fen-contains-set-spec : {M : Type 1} → statement M
+fen-contains-set-spec =
+    tie.close (tie.spec contains-set-requires asked-requires told-requires returns)

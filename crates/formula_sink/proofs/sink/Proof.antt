@@ -1,0 +1,62 @@
+-- `formula_sink::sink` meets its contract: `Sinking` is the invariant, as for one store. Assumes nothing.
+use mathlib.Core.Path.{sym, _∙_}
+use Prim.Native.Nat.{_-_}
+use native.Mathlib.Omega.{arith}
+use Rattle.codes.specs.Tree.{four}
+use Rattle.machine.specs.Machine.{machineWord}
+use Rattle.iter.proofs.Turns.{Sinking, sink-start, sink-again, sink-rests, sink-spent}
+use borrow.Author.Needs.{needs}
+use Rattle.formula_sink.proofs.sink.Statement.{statement}
+use Rattle.formula_sink.proofs.sink.Tie as tie
+
+abbrev Inv-loop : tie.InvT-loop
+Inv-loop codes n s0 s1 s2 s3 spent budget cuts c₀ reads₀ c reads = Sinking (machineWord n (four s0 s1 s2 s3) codes) budget spent c₀ c reads
+
+abbrev μ-loop : tie.MeasureT-loop
+μ-loop codes n s0 s1 s2 s3 spent budget cuts c₀ reads₀ c reads = budget - reads
+
+cuts-requires : tie.Need-cuts-requires Inv-loop μ-loop
+cuts-requires c κs = search needs
+
+loop-holds : tie.Need-loop-holds Inv-loop μ-loop
+loop-holds c = sink-start _ _ _ _
+
+wants-requires : tie.Need-wants-requires Inv-loop μ-loop
+wants-requires c κs = search needs
+
+read-requires : tie.Need-read-requires Inv-loop μ-loop
+read-requires c κs = let w = c .before .before in (sym (w .wants .ensures) ∙ c .before .if1 .taken, w .before .before .cuts .ensures)
+
+add-reads : tie.Need-add-reads Inv-loop μ-loop
+add-reads c = omega (arith, c .before .if2 .left)
+
+loop-less : tie.Need-loop-less Inv-loop μ-loop
+loop-less c = omega (arith, c .before .if2 .left)
+
+loop-again : tie.Need-loop-again Inv-loop μ-loop
+loop-again c =
+    let e = c .before in
+    let w = e .before .before in
+    sink-again (w .before .loop .inv) (sym (w .wants .ensures) ∙ e .before .if1 .taken) (omega (arith, e .if2 .left)) (c .read .ensures)
+
+returns : tie.Need-returns Inv-loop μ-loop
+returns c = let w = c .before in sink-rests (w .before .loop .inv) (sym (w .wants .ensures) ∙ c .if1 .left)
+
+returns-2 : tie.Need-returns-2 Inv-loop μ-loop
+returns-2 c = sink-spent (c .before .before .before .loop .inv) (c .if2 .taken)
+
+pub sink-spec : {M : Type 1} → statement M
+sink-spec =
+    tie.close
+    (tie.spec
+    Inv-loop
+    μ-loop
+    cuts-requires
+    loop-holds
+    wants-requires
+    read-requires
+    add-reads
+    loop-less
+    loop-again
+    returns
+    returns-2)

@@ -1,0 +1,109 @@
+// The descent of a walk over a formula: words are read until none is wanted or the budget is spent. A formula word counts one read.
+ghost use mathlib.Core.Bool.{true};
+ghost use mathlib.Core.Path.{_≡_};
+ghost use Prim.Native.Nat.{_+_, _-_, _<_};
+ghost use lib.ListN.{getD};
+ghost use Rattle.iter.specs.Steps.{isReading, Lowers, Sinks};
+ghost use Rattle.iter.specs.Walk.{lowLayer, kind, handled};
+ghost use Rattle.codes.specs.Tree.{four};
+ghost use Rattle.codes.specs.Codes.{cutsIn};
+ghost use Rattle.machine.specs.Machine.{machineWord};
+ghost use Rattle.formula_sink.specs.Steps.{Spotted};
+use iter::Cursor;
+use iter::Sunk;
+
+// The word that has to be read: its layer, its index, and where it stands in a store.
+struct Spot {
+    layer: usize,
+    index: usize,
+    at: usize,
+}
+
+// The word of layer k that has to be read, in stores of capacity n.
+fn below(c: Cursor, k: usize, n: usize) -> Spot
+    requires { ⌜ (k < 3) × (lowLayer 3 c ≡ k + 1) × (0 < getD (c .masks) (k + 1) 0) ⌝ }
+    ensures { λ r. ⌜ Spotted n c r ⌝ }
+{
+    let q = c.place(k + 1);
+    Spot {
+        layer: k,
+        index: q,
+        at: spots::spot(n, k, q),
+    }
+}
+
+// The same, with the layer looked for. A literal layer number keeps the cursor in registers.
+fn wanted(c: Cursor, n: usize) -> Spot
+    requires { ⌜ isReading (kind 3 c) ≡ true ⌝ }
+    ensures { λ r. ⌜ Spotted n c r ⌝ }
+{
+    let masks = c.masks;
+    if masks[1] != 0 {
+        return below(c, 0, n);
+    }
+    if masks[2] != 0 {
+        return below(c, 1, n);
+    }
+    below(c, 2, n)
+}
+
+// The word is taken into the cursor, in the same way.
+fn lower(c: Cursor, j: usize, w: u64) -> Cursor
+    requires { ⌜ j < 3 ⌝ }
+    ensures { λ r. ⌜ r ≡ handled j w c ⌝ }
+{
+    if j == 0 {
+        return c.handle_level(0, w);
+    }
+    if j == 1 {
+        return c.handle_level(1, w);
+    }
+    c.handle_level(2, w)
+}
+
+// One word is read.
+fn read(
+    c: Cursor,
+    codes: &[u8],
+    cuts: bool,
+    n: usize,
+    s0: &[u64],
+    s1: &[u64],
+    s2: &[u64],
+    s3: &[u64],
+) -> Cursor
+    requires { ⌜ (isReading (kind 3 c) ≡ true) × (cuts ≡ cutsIn (now codes)) ⌝ }
+    ensures { λ r. ⌜ Lowers (machineWord n (four (now (s0 .entry)) (now (s1 .entry)) (now (s2 .entry)) (now (s3 .entry))) (now (codes .entry))) (lowLayer 3 c - 1) c r ⌝ }
+{
+    let p = wanted(c, n);
+    let x = spots::cut(cuts, n, p.layer, p.index);
+    let w = machine::word_at(codes, p.layer, x, p.at, s0, s1, s2, s3);
+    lower(c, p.layer, w)
+}
+
+// After so many reads, words are read until none is wanted or the budget is spent.
+pub fn sink(
+    from: Cursor,
+    codes: &[u8],
+    n: usize,
+    s0: &[u64],
+    s1: &[u64],
+    s2: &[u64],
+    s3: &[u64],
+    spent: u64,
+    budget: u64,
+) -> Sunk
+    ensures { λ r. ⌜ Sinks (machineWord n (four (now (s0 .entry)) (now (s1 .entry)) (now (s2 .entry)) (now (s3 .entry))) (now (codes .entry))) budget spent from r ⌝ }
+{
+    let cuts = codes::cuts(codes);
+    let mut c = from;
+    let mut reads = spent;
+    while c.wants() {
+        if budget <= reads {
+            break;
+        }
+        c = read(c, codes, cuts, n, s0, s1, s2, s3);
+        reads += 1;
+    }
+    Sunk { cursor: c, reads }
+}
