@@ -1,0 +1,95 @@
+//! Refusals by number.
+
+use core::error::Error;
+use core::fmt;
+
+/// Why a call was refused. The numbers are those of `include/fendruscla.h`; a refused call changes nothing that it was lent.
+#[derive(Clone, Copy, Debug, PartialEq, Eq, Hash)]
+#[non_exhaustive]
+#[repr(u8)]
+pub enum Refusal {
+    /// The capacity is 0 or above 16,777,216.
+    Capacity = 1,
+    /// The words are no store: their number and word 0 do not fit. Of a formula: its first store is none, or it names no store.
+    NoStore = 2,
+    /// An id is at or past the capacity.
+    NoRoom = 3,
+    /// The layer's number is above 3.
+    NoLayer = 4,
+    /// The capacities of two stores, or of a map and a store, differ.
+    Differ = 5,
+    /// No formula: over 32 codes, over eight values waiting, over four stores, or codes that do not fit together.
+    NoFormula = 6,
+    /// A cursor's prefix is none.
+    NoCursor = 7,
+    /// The buffer is shorter than the map.
+    ShortBuffer = 8,
+    /// The map's header is wrong, or the map is shorter than it says.
+    MapHeader = 9,
+    /// An entry of the map is wrong.
+    MapEntry = 10,
+    /// The map's count of members is wrong.
+    MapCount = 11,
+    /// Every id below the capacity is a member.
+    Full = 12,
+}
+
+use Refusal::*;
+
+/// All refusals, in the order of their numbers.
+const ALL: [Refusal; 12] =
+    [Capacity, NoStore, NoRoom, NoLayer, Differ, NoFormula, NoCursor, ShortBuffer, MapHeader, MapEntry, MapCount, Full];
+
+impl Refusal {
+    /// The refusal's number, from 1.
+    pub const fn number(self) -> u8 {
+        self as u8
+    }
+
+    /// The refusal that has this number.
+    pub fn from_number(number: u64) -> Option<Refusal> {
+        ALL.into_iter().find(|refusal| u64::from(refusal.number()) == number)
+    }
+
+    /// The panic of the calls that have no error to give, as the old crate's calls have none.
+    #[cold]
+    #[track_caller]
+    pub(crate) fn raise(self) -> ! {
+        panic!("{self}")
+    }
+
+    const fn text(self) -> &'static str {
+        match self {
+            Capacity => "the capacity is 0 or above 16777216",
+            NoStore => "the words are no store",
+            NoRoom => "an id is at or past the capacity",
+            NoLayer => "the layer is above 3",
+            Differ => "the capacities differ",
+            NoFormula => "no formula over at most four stores",
+            NoCursor => "a prefix of the cursor is none",
+            ShortBuffer => "the buffer is shorter than the map",
+            MapHeader => "the map's header is wrong or the map too short",
+            MapEntry => "an entry of the map is wrong",
+            MapCount => "the map's count of members is wrong",
+            Full => "no id is free",
+        }
+    }
+}
+
+impl fmt::Display for Refusal {
+    fn fmt(&self, f: &mut fmt::Formatter<'_>) -> fmt::Result {
+        write!(f, "refusal {}: {}", self.number(), self.text())
+    }
+}
+
+impl Error for Refusal {}
+
+/// What an answer is worth, or the panic of its refusal.
+#[inline]
+#[track_caller]
+pub(crate) fn sure<T>(answer: Result<T, Refusal>) -> T {
+    match answer {
+        Ok(value) => value,
+        Err(refusal) => refusal.raise(),
+    }
+}
