@@ -1,11 +1,15 @@
 //! Times the port and the unchanged crate beside each other. Each row is one piece of work done by both sides, taking turns; the figures
-//! are medians over the rounds, and both sides' sums of answers must agree.
+//! are medians over the rounds, with the ratio of the least times beside them, and both sides' sums of answers must agree.
 mod formulas;
 mod maps;
 mod members;
 mod merges;
+#[cfg(roaring)]
+mod others;
 mod points;
 mod port;
+#[cfg(roaring)]
+mod roaring;
 mod table;
 mod walks;
 
@@ -17,7 +21,7 @@ fn main() {
     let parts: Vec<String> = std::env::args().skip(2).collect();
     let wanted = |part: &str| parts.is_empty() || parts.iter().any(|p| p == part);
     let table = table::Table { rounds };
-    println!("| call | N | members | Rust ns | port ns | ratio |\n|---|---|---|---|---|---|");
+    println!("| call | N | members | Rust ns | port ns | ratio | least |\n|---|---|---|---|---|---|---|");
     merges::at_index_63();
     for n in [262_144, 16_777_216] {
         for kind in ["1 in 4,096", "1 in 64", "1 in 2", "runs"] {
@@ -44,6 +48,15 @@ fn main() {
         for kind in ["1 in 4,096", "1 in 64", "half the words", "1 in 2"] {
             if wanted("maps") {
                 maps::maps(&table, &mut Random(1), n, kind);
+            }
+        }
+    }
+    #[cfg(roaring)]
+    if wanted("others") {
+        println!("\n| call | N | members | hibitset ns | CRoaring ns | C scan ns | port ns | to CRoaring | to C scan |\n|---|---|---|---|---|---|---|---|---|");
+        for n in [262_144, 16_777_216] {
+            for kind in ["1 in 4,096", "1 in 64", "1 in 2", "runs"] {
+                others::others(&table, &mut Random(1), n, kind);
             }
         }
     }
