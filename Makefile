@@ -5,6 +5,7 @@ IN ?= crates/listing/stdin
 
 # Builds the listing program from proved crates and runs it.
 run:
+	@echo 'proving listing and what it stands on: target/build.log' >&2
 	@mkdir -p target && rt check listing >target/build.log 2>&1 || { cat target/build.log; exit 1; }
 	@tools/run listing <$(IN)
 

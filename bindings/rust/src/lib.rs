@@ -30,8 +30,8 @@
 #![deny(unsafe_code)]
 #![warn(missing_docs)]
 
-#[cfg(not(all(target_arch = "x86_64", target_pointer_width = "64")))]
-compile_error!("the archive is for x86-64");
+#[cfg(not(all(any(target_arch = "x86_64", target_arch = "aarch64"), target_pointer_width = "64")))]
+compile_error!("there are archives for x86-64 and 64-bit Arm");
 
 extern crate alloc;
 
