@@ -23,9 +23,10 @@ use Rattle.iter.specs.Walk.{startAt}
 use Rattle.iter.proofs.Answers.{start-is}
 use Rattle.demand.proofs.Taken.{Wf, start-wf, start-fine}
 use Rattle.demand.proofs.Rest.{rest, cost, Moves, start-rest}
-use Rattle.demand.specs.Fills.{Stopped}
-use Rattle.demand.specs.Fills.Stopped.{full, paused, ended}
-use Rattle.demand.proofs.Fills.{fill-moved, fill-is}
+use Rattle.demand.specs.Calls.{Stopped}
+use Rattle.demand.specs.Calls.Stopped.{full, paused, ended}
+use Rattle.demand.proofs.Fills.{fill-moved}
+use Rattle.demand.proofs.Store.{fill-is}
 use Rattle.batches.specs.Steps.{walked, goesOn}
 
 -- what a cursor in a walk of t has still to hand out, and the words to read and the ids to hand out in number
@@ -78,7 +79,7 @@ module _ (t : List ℕ) (is : isStore t ≡ true) (small : Words64 t) where
   pub turn : {b : ℕ} {ids out : List ℕ} {c : Cursor} {r : Batch} → At t ids c → Settled batchPaper (fillOf t c b ids) r out → Turn t b c r out
   turn {b} {ids} {out} {c} {r} g a =
       let f = fillFrom lw k 64 b c in
-      let e : fillIn t c b (length ids) ≡ f = ap (fillIn t c b) (g .long) ∙ fill-is t is small (record { budget = b; room = 64 }) c (g .fine) in
+      let e : fillIn t c b (length ids) ≡ f = ap (fillIn t c b) (g .long) ∙ fill-is t is small b 64 c (g .fine) in
       let z = settles {r′ = batch (fillIn t c b (length ids))} a (record { answer = refl; memory = refl }) in
       let m = fill-moved lw (word-lt (cap t) t small) k 64 b c (g .wf) in
       let n : length (f .ids) ≤ 64 = inside-of (m .kept) in

@@ -18,7 +18,8 @@ use Rattle.bitset.specs.Edit.{edit, edits, addLayers, left, climb, removeLayers
 use Rattle.whole.specs.Calls.{openOf, isEmptyOf}
 use Rattle.free.specs.Calls.{freeFrom, firstFreeOf}
 use Rattle.iter.specs.Calls.{prefixesFit, startIn, nextIn}
-use Rattle.iter.specs.Walk.{lowFrom, prefixAt, placeAt, less, handed, taken, next, runBy}
+use Rattle.iter.specs.Walk.{lowFrom, prefixAt, placeAt, less, handed, taken, next}
+use Rattle.demand.specs.Calls.{runBy}
 use Rattle.codes.specs.Tree.{existing, xorIn, notIn, value, treeWord}
 use Rattle.codes.specs.Codes.{kindOf, trees, treeOf, takesIn, left as leftOf, isFormula}
 use Rattle.codes.specs.Check.{besideOf, sooner, storesOf, checkOf}
