@@ -81,10 +81,14 @@ refusal (tells p o) r = 0
 refusal (merges op s t) r = getD (didPaper .numbers r) 0 0
 refusal (makes s c) r = 0
 
+-- the last number of the table "Refusals by number"
+abbrev pub lastRefusal : ℕ
+lastRefusal = 12
+
 -- "Each returns its number and zeros elsewhere and changes nothing lent; a refused next hands back its cursor as given." The number n is one
 -- of the table, and f n is the answer with zeros elsewhere.
 pub record Refuses {R X : Type 0} (f : ℕ → R) (x : X) (n : ℕ) (r : R) (y : X) : Type 0 where
-  pub known : n ≤ 12
+  pub known : n ≤ lastRefusal
   pub answer : r ≡ f n
   pub memory : y ≡ x
 
