@@ -33,8 +33,8 @@ use Rattle.batches.specs.Steps.{walked, goesOn}
 abbrev pub ahead : List ℕ → Cursor → List ℕ
 ahead t c = rest (word (cap t) t) (top (cap t)) c (suc (top (cap t)))
 
-abbrev pub left : List ℕ → Cursor → ℕ
-left t c = cost (word (cap t) t) (top (cap t)) c (suc (top (cap t))) + length (ahead t c)
+abbrev pub toGo : List ℕ → Cursor → ℕ
+toGo t c = cost (word (cap t) t) (top (cap t)) c (suc (top (cap t))) + length (ahead t c)
 
 -- the walk of t stands at c, with ids from earlier batches in the array
 pub record At (t ids : List ℕ) (c : Cursor) : Type 0 where
@@ -118,8 +118,8 @@ module _ {t out : List ℕ} {b : ℕ} {c : Cursor} {r : Batch} (u : Turn t b c r
       go Paused q (paused x) e = absurd (true≢false e)
 
   -- a batch that is not the last hands out 64 ids, or spends its budget
-  pub less-left : 1 ≤ b → goesOn (r .stop) ≡ true → left t (r .cursor) < left t c
-  less-left p e =
+  pub less-to-go : 1 ≤ b → goesOn (r .stop) ≡ true → toGo t (r .cursor) < toGo t c
+  less-to-go p e =
       let l : length (ahead t c) ≡ length (u .ids) + length (ahead t (r .cursor)) = ap length (u .moves .ids) ∙ length-append (u .ids) (ahead t (r .cursor)) in
       let m : 1 ≤ r .reads + length (u .ids) = go (r .stop) (u .kept) e in
       omega (arith, l, m, u .moves .count)

@@ -42,7 +42,7 @@ use Rattle.codes.specs.Check.{besideOf, sooner, storesOf, checkOf}
 use Rattle.formula.specs.Calls.{capOf, layerWordOf, containsOf as formulaContainsOf, isEmptyOf as formulaIsEmptyOf}
 use Rattle.formula_iter.specs.Calls.{refusalIn, startIn as formulaStartIn, nextIn as formulaNextIn}
 use Rattle.formula_fill.specs.Calls.{fillIn as formulaFillIn}
-use Rattle.merging.specs.Calls.{isPair, assignOf, Assigned}
+use Rattle.merging.specs.Calls.{mergeable, assignOf, Assigned}
 use Rattle.chunkmap.specs.Answer.{wrotePaper}
 use Rattle.chunkmap.specs.Calls.{writeOf}
 use Rattle.chunkmap.specs.Map.{wordsIn, mapLen}
@@ -161,8 +161,8 @@ assign-stays : (op : ℕ) (s t : List ℕ) → Stays didPaper DidRefused s (assi
 unfolding assignOf
 assign-stays op s t = choose (isStore s && isStore t) (choose (eqb (cap s) (cap t)) (goes refl) (stays 5 (omega arith) refl)) (stays 2 (omega arith) refl)
 
-pair-goes : (op : ℕ) (s t : List ℕ) → isPair s t ≡ true → getD (assignOf op s t .numbers) 0 0 ≡ 0
-unfolding isPair assignOf
+pair-goes : (op : ℕ) (s t : List ℕ) → mergeable s t ≡ true → getD (assignOf op s t .numbers) 0 0 ≡ 0
+unfolding mergeable assignOf
 pair-goes op s t h = let b = both (isStore s && isStore t) (eqb (cap s) (cap t)) h in rw (b .0, b .1)
 
 assign-refuses : (op : ℕ) (s t : List ℕ) {r : Did} {y : List ℕ} → Assigned op s t r y → getD (didPaper .numbers r) 0 0 ≢ 0
