@@ -13,7 +13,7 @@ use Rattle.store.specs.declared.Did.{Did}
 use Rattle.store.specs.Layout.{top, room, span, layerEnd, cap, isCap, isStore, storeLen}
 use Rattle.store.specs.Word.{members, Words64}
 use Rattle.store.proofs.Geometry.{is-store}
-use Rattle.bitset.specs.Calls.{moveOf, addOf, removeOf}
+use Rattle.bitset.specs.Calls.{moveOf}
 use Rattle.members.specs.Calls.{holds}
 use Rattle.bitset.specs.Edit.{edits, layersOf}
 use Rattle.bitset.proofs.Edits.{cap-edits, length-edits}
