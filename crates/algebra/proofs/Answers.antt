@@ -27,11 +27,7 @@ use Rattle.algebra.specs.Members.{Among, held, membersOf}
 use Rattle.algebra.specs.Sides.{Sounds}
 use Rattle.algebra.proofs.Sets.{sound-none, tree-held, held-among, ids-members}
 
--- an answer of yes
-abbrev pub yes-said : Outcome (Unit {0})
-yes-said = says true tt
-
-said-yes : (b : Bool) → says b tt ≡ yes-said → b ≡ true
+said-yes : (b : Bool) → _≡_ {A = Outcome (Unit {0})} (says b tt) (says true tt) → b ≡ true
 said-yes true e = refl
 said-yes false e = absurd (omega (arith, ap (λ (o : Outcome (Unit {0})). getD (o .numbers) 1 0) e))
 
@@ -48,7 +44,7 @@ module _ (a b c d cs : List ℕ) (ok : checkOf (four a b c d) cs ≡ 0) (words :
       go s z (no n) = z n
 
   -- CONTAINS says yes exactly for the members, whether the stores are sound or not.
-  pub contains-among : (i : ℕ) → (containsOf ss cs i ≡ yes-said) ↔ ((i < cap a) × Among ss (treeOf cs) i)
+  pub contains-among : (i : ℕ) → (containsOf ss cs i ≡ says true tt) ↔ ((i < cap a) × Among ss (treeOf cs) i)
   unfolding containsOf onAt
   contains-among i = (
     λ e.
@@ -74,7 +70,7 @@ module _ (a b c d cs : List ℕ) (ok : checkOf (four a b c d) cs ≡ 0) (words :
       bit-held h = tree-held N ss (λ x. word-lt N (nth ss x) (words x)) (treeOf cs) i h
 
   -- IS_EMPTY says yes only where there is no member, over sound stores.
-  pub empty-none : Sounds (cap a) ss → isEmptyOf ss cs ≡ yes-said → membersOf (cap a) ss (treeOf cs) ≡ []
+  pub empty-none : Sounds (cap a) ss → isEmptyOf ss cs ≡ says true tt → membersOf (cap a) ss (treeOf cs) ≡ []
   unfolding isEmptyOf
   empty-none z e =
       let w = wordsOf ss cs (top (cap a)) 0 in

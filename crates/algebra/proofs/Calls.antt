@@ -13,13 +13,12 @@ use Rattle.iter.specs.declared.Cursor.{Cursor}
 use Rattle.iter.specs.declared.Next.the-variants.{Paused}
 use Rattle.iter.specs.declared.Step.{Step}
 use Rattle.iter.specs.Calls.{Fine}
-use Rattle.iter.specs.Walk.{startAt, Run, runBy}
+use Rattle.iter.specs.Walk.{startAt}
 use Rattle.iter.proofs.Cursors.{fit-of}
-use Rattle.demand.specs.Fills.{Ask, Some as SomeAsks, AllStopped, fillsBy, Fills}
+use Rattle.demand.specs.Calls.{Ask, Some, Run, runBy, AllStopped, Nexts, Fills}
 use Rattle.demand.specs.Under.{allIds, allReads}
-use Rattle.demand.specs.Walks.{Bounded, Some, AllKept, Spaced, Nexts}
+use Rattle.demand.specs.Walks.{Bounded, Spaced}
 use Rattle.demand.proofs.Called.{calls-kept, calls-defined, calls-over, calls-spaced}
-use Rattle.demand.proofs.Fills.{fills-all, fills-end, filled-is}
 use Rattle.codes.specs.Tree.{four, nth}
 use Rattle.codes.specs.Codes.{treeOf}
 use Rattle.codes.specs.Check.{checkOf}
@@ -29,7 +28,7 @@ use Rattle.formula_iter.specs.Calls.{startIn, refusalIn, nextIn}
 use Rattle.formula_fill.specs.Calls.{fillIn}
 use Rattle.algebra.specs.Members.{Among, membersOf}
 use Rattle.algebra.specs.Sides.{Sounds, UnionCodes}
-use Rattle.algebra.specs.Walks.{nextOver, fillOver, walkOver, fillsOver, readsOf, Walked}
+use Rattle.algebra.specs.Walks.{nextOver, fillOver, callOver, walkOver, readsOf, Walked}
 use Rattle.algebra.proofs.Sets.{ids-members, members-are, members-rise}
 use Rattle.algebra.proofs.Shapes.{tree-and, tree-union}
 use Rattle.algebra.proofs.Trees.{tree-bounded, union-full}
@@ -59,7 +58,7 @@ module _ (a b c d cs : List ℕ) (ok : checkOf (four a b c d) cs ≡ 0) (z : Sou
 
   fill-is : Fills lw t (fillOver ss cs)
   unfolding fillIn
-  fill-is q k f = rw (none k f)
+  fill-is m n k f = rw (none k f)
 
   start-is : (k : Cursor) → startIn ss cs k ≡ record { cursor = startAt t (lw t 0); reads = 1; answer = Paused }
   unfolding startIn
@@ -69,11 +68,9 @@ module _ (a b c d cs : List ℕ) (ok : checkOf (four a b c d) cs ≡ 0) (z : Sou
   start-cursor k = ap (λ (x : Step). x .cursor) (start-is k)
 
   -- no call of a started walk refuses or reads past its budget, and a paused one has spent it
-  pub formula-kept : (k : Cursor) (bs : List ℕ) → AllKept (nextOver ss cs) bs (startIn ss cs k .cursor)
-  formula-kept k bs = subst (AllKept (nextOver ss cs) bs) (sym (start-cursor k)) (calls-kept lw bounded t (nextOver ss cs) next-is bs)
-
-  pub formula-fills-kept : (k : Cursor) (l : List Ask) → AllStopped (fillOver ss cs) l (startIn ss cs k .cursor)
-  formula-fills-kept k l = subst (AllStopped (fillOver ss cs) l) (sym (start-cursor k)) (filled-is lw bounded t (fillOver ss cs) fill-is l .1)
+  pub formula-kept : (k : Cursor) (l : List Ask) → AllStopped (callOver ss cs) l (startIn ss cs k .cursor)
+  formula-kept k l =
+      subst (AllStopped (callOver ss cs) l) (sym (start-cursor k)) (calls-kept lw bounded t (nextOver ss cs) (fillOver ss cs) next-is fill-is l)
 
   -- what the definition hands out and counts is the members and the reads
   walked-of : (k : Cursor) (w : Run) → (w .members ≡ allIds lw t) × (1 + w .total ≡ allReads lw t) → Walked ss cs k w
@@ -87,27 +84,18 @@ module _ (a b c d cs : List ℕ) (ok : checkOf (four a b c d) cs ≡ 0) (z : Sou
         counted = ap (λ (x : Step). x .reads + w .total) (start-is k) ∙ r .1;
       }
 
-  -- A WALK of a formula that ends, however it is cut by budgets
-  pub formula-walked : (k : Cursor) (bs : List ℕ) → walkOver ss cs k bs .over ≡ true → Walked ss cs k (walkOver ss cs k bs)
-  formula-walked k bs e =
-      let w = ap (λ (x : Cursor). runBy (nextOver ss cs) x bs) (start-cursor k) in
-      subst (Walked ss cs k) (sym w) (walked-of k _ (calls-defined lw bounded t (nextOver ss cs) next-is bs (sym (ap (λ (x : Run). x .over) w) ∙ e)))
-
-  -- or by fills
-  pub formula-filled : (k : Cursor) (l : List Ask) → fillsOver ss cs k l .over ≡ true → Walked ss cs k (fillsOver ss cs k l)
-  formula-filled k l e =
-      let w = ap (λ (x : Cursor). fillsBy (fillOver ss cs) x l) (start-cursor k) ∙ filled-is lw bounded t (fillOver ss cs) fill-is l .0 in
-      subst (Walked ss cs k) (sym w) (walked-of k _ (fills-all lw bounded t l (sym (ap (λ (x : Run). x .over) w) ∙ e)))
+  -- A WALK of a formula that ends, however it is cut into calls of next and of fill
+  pub formula-walked : (k : Cursor) (l : List Ask) → walkOver ss cs k l .over ≡ true → Walked ss cs k (walkOver ss cs k l)
+  formula-walked k l e =
+      let w = ap (λ (x : Cursor). runBy (callOver ss cs) x l) (start-cursor k) in
+      let d = calls-defined lw bounded t (nextOver ss cs) (fillOver ss cs) next-is fill-is l (sym (ap (λ (x : Run). x .over) w) ∙ e) in
+      subst (Walked ss cs k) (sym w) (walked-of k _ d)
 
   -- and enough calls end it
-  pub formula-over : (k : Cursor) (bs : List ℕ) → Some bs → allReads lw t + length (allIds lw t) ≤ length bs → walkOver ss cs k bs .over ≡ true
-  formula-over k bs some h =
-      ap (λ (x : Cursor). runBy (nextOver ss cs) x bs .over) (start-cursor k) ∙ calls-over lw bounded t (nextOver ss cs) next-is bs some h
-
-  pub formula-fills-over : (k : Cursor) (l : List Ask) → SomeAsks l → allReads lw t + length (allIds lw t) ≤ length l → fillsOver ss cs k l .over ≡ true
-  formula-fills-over k l some h =
-      ap (λ (x : Cursor). fillsBy (fillOver ss cs) x l .over) (start-cursor k)
-      ∙ ap (λ (x : Run). x .over) (filled-is lw bounded t (fillOver ss cs) fill-is l .0) ∙ fills-end lw bounded t l some h
+  pub formula-over : (k : Cursor) (l : List Ask) → Some l → allReads lw t + length (allIds lw t) ≤ length l → walkOver ss cs k l .over ≡ true
+  formula-over k l some h =
+      ap (λ (x : Cursor). runBy (callOver ss cs) x l .over) (start-cursor k)
+      ∙ calls-over lw bounded t (nextOver ss cs) (fillOver ss cs) next-is fill-is l some h
 
   -- ON ONE STORE OR A UNION OF STORES at most three words are read before each next member, after the top word, and none before the end.
   pub formula-spaced : UnionCodes cs → (k : Cursor) (bs : List ℕ) → Spaced t (nextOver ss cs) bs (startIn ss cs k .cursor) 0
@@ -124,7 +112,7 @@ module _ (a b c d f g : List ℕ) (z : Sounds (cap a) (four a b c d)) where
   abbrev fg : List ℕ
   fg = f ++ (g ++ 16 ∷ [])
 
-  module _ (left : checkOf qs f ≡ 0) (right : checkOf qs g ≡ 0) (ok : checkOf qs fg ≡ 0) (k m : Cursor) (bs ls : List ℕ) (ends : walkOver qs fg k bs .over ≡ true) where
+  module _ (left : checkOf qs f ≡ 0) (right : checkOf qs g ≡ 0) (ok : checkOf qs fg ≡ 0) (k m : Cursor) (bs ls : List Ask) (ends : walkOver qs fg k bs .over ≡ true) where
     fewer : (allReads (wordsOf qs fg) (top (cap a)) ≤ allReads (wordsOf qs f) (top (cap a)))
         × (allReads (wordsOf qs fg) (top (cap a)) ≤ allReads (wordsOf qs g) (top (cap a)))
     fewer = rw (tree-and qs f g (accepted a b c d f left .formula) (accepted a b c d g right .formula)) (both-reads (cap a) qs (treeOf f) (treeOf g))

@@ -1,4 +1,4 @@
--- Walks over a formula by the public calls: started, and then a call for each budget, or a fill for each ask, of a list.
+-- Walks over a formula by the public calls: started, and then a next or a fill for each ask of a list.
 use mathlib.Core.List.{List, List·Memᴰ}
 use mathlib.Core.Logic.{_↔_}
 use mathlib.Core.Path.{_≡_}
@@ -7,9 +7,8 @@ use Rattle.util.specs.Word.{Rising}
 use Rattle.store.specs.Layout.{top}
 use Rattle.iter.specs.declared.Cursor.{Cursor}
 use Rattle.iter.specs.declared.Step.{Step}
-use Rattle.iter.specs.Walk.{Run, runBy}
 use Rattle.fill.specs.Fill.{Filled}
-use Rattle.demand.specs.Fills.{Ask, fillsBy}
+use Rattle.demand.specs.Calls.{Ask, asked, Run, runBy}
 use Rattle.demand.specs.Under.{allReads}
 use Rattle.codes.specs.Codes.{treeOf}
 use Rattle.formula.specs.Calls.{capOf, wordsOf}
@@ -17,19 +16,19 @@ use Rattle.formula_iter.specs.Calls.{startIn, nextIn}
 use Rattle.formula_fill.specs.Calls.{fillIn}
 use Rattle.algebra.specs.Members.{Among, membersOf}
 
--- a call of next, the budget first, and of fill, by what it is asked for
+-- a call of next and of fill, the budget first, and one of either by what it is asked for
 abbrev pub nextOver : List (List ℕ) → List ℕ → ℕ → Cursor → Step
 nextOver ss cs b c = nextIn ss cs c b
 
-abbrev pub fillOver : List (List ℕ) → List ℕ → Ask → Cursor → Filled
-fillOver ss cs a c = fillIn ss cs c (a .budget) (a .room)
+abbrev pub fillOver : List (List ℕ) → List ℕ → ℕ → ℕ → Cursor → Filled
+fillOver ss cs b m c = fillIn ss cs c b m
+
+abbrev pub callOver : List (List ℕ) → List ℕ → Ask → Cursor → Filled
+callOver ss cs = asked (nextOver ss cs) (fillOver ss cs)
 
 -- started with any cursor; the total is the reads after the start's
-abbrev pub walkOver : List (List ℕ) → List ℕ → Cursor → List ℕ → Run
-walkOver ss cs c bs = runBy (nextOver ss cs) (startIn ss cs c .cursor) bs
-
-abbrev pub fillsOver : List (List ℕ) → List ℕ → Cursor → List Ask → Run
-fillsOver ss cs c l = fillsBy (fillOver ss cs) (startIn ss cs c .cursor) l
+abbrev pub walkOver : List (List ℕ) → List ℕ → Cursor → List Ask → Run
+walkOver ss cs c l = runBy (callOver ss cs) (startIn ss cs c .cursor) l
 
 -- all words that a walk read, the start's among them
 abbrev pub readsOf : List (List ℕ) → List ℕ → Cursor → Run → ℕ

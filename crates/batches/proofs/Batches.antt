@@ -23,17 +23,18 @@ use Rattle.iter.specs.Walk.{startAt}
 use Rattle.iter.proofs.Answers.{start-is}
 use Rattle.demand.proofs.Taken.{Wf, start-wf, start-fine}
 use Rattle.demand.proofs.Rest.{rest, cost, Moves, start-rest}
-use Rattle.demand.specs.Fills.{Stopped}
-use Rattle.demand.specs.Fills.Stopped.{full, paused, ended}
-use Rattle.demand.proofs.Fills.{fill-moved, fill-is}
+use Rattle.demand.specs.Calls.{Stopped}
+use Rattle.demand.specs.Calls.Stopped.{full, paused, ended}
+use Rattle.demand.proofs.Fills.{fill-moved}
+use Rattle.demand.proofs.Store.{fill-is}
 use Rattle.batches.specs.Steps.{walked, goesOn}
 
 -- what a cursor in a walk of t has still to hand out, and the words to read and the ids to hand out in number
 abbrev pub ahead : List ℕ → Cursor → List ℕ
 ahead t c = rest (word (cap t) t) (top (cap t)) c (suc (top (cap t)))
 
-abbrev pub left : List ℕ → Cursor → ℕ
-left t c = cost (word (cap t) t) (top (cap t)) c (suc (top (cap t))) + length (ahead t c)
+abbrev pub toGo : List ℕ → Cursor → ℕ
+toGo t c = cost (word (cap t) t) (top (cap t)) c (suc (top (cap t))) + length (ahead t c)
 
 -- the walk of t stands at c, with ids from earlier batches in the array
 pub record At (t ids : List ℕ) (c : Cursor) : Type 0 where
@@ -78,7 +79,7 @@ module _ (t : List ℕ) (is : isStore t ≡ true) (small : Words64 t) where
   pub turn : {b : ℕ} {ids out : List ℕ} {c : Cursor} {r : Batch} → At t ids c → Settled batchPaper (fillOf t c b ids) r out → Turn t b c r out
   turn {b} {ids} {out} {c} {r} g a =
       let f = fillFrom lw k 64 b c in
-      let e : fillIn t c b (length ids) ≡ f = ap (fillIn t c b) (g .long) ∙ fill-is t is small (record { budget = b; room = 64 }) c (g .fine) in
+      let e : fillIn t c b (length ids) ≡ f = ap (fillIn t c b) (g .long) ∙ fill-is t is small b 64 c (g .fine) in
       let z = settles {r′ = batch (fillIn t c b (length ids))} a (record { answer = refl; memory = refl }) in
       let m = fill-moved lw (word-lt (cap t) t small) k 64 b c (g .wf) in
       let n : length (f .ids) ≤ 64 = inside-of (m .kept) in
@@ -117,8 +118,8 @@ module _ {t out : List ℕ} {b : ℕ} {c : Cursor} {r : Batch} (u : Turn t b c r
       go Paused q (paused x) e = absurd (true≢false e)
 
   -- a batch that is not the last hands out 64 ids, or spends its budget
-  pub less-left : 1 ≤ b → goesOn (r .stop) ≡ true → left t (r .cursor) < left t c
-  less-left p e =
+  pub less-to-go : 1 ≤ b → goesOn (r .stop) ≡ true → toGo t (r .cursor) < toGo t c
+  less-to-go p e =
       let l : length (ahead t c) ≡ length (u .ids) + length (ahead t (r .cursor)) = ap length (u .moves .ids) ∙ length-append (u .ids) (ahead t (r .cursor)) in
       let m : 1 ≤ r .reads + length (u .ids) = go (r .stop) (u .kept) e in
       omega (arith, l, m, u .moves .count)

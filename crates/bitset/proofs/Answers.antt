@@ -1,19 +1,17 @@
 -- What each way out of the code answers is what the definition answers there.
-use mathlib.Core.Bool.{Bool, true, false, cond, _&&_}
-use mathlib.Core.List.{List, [], _∷_}
+use mathlib.Core.Bool.{Bool, true, false, _&&_}
+use mathlib.Core.List.{List}
 use mathlib.Core.Logic.{_≢_}
-use mathlib.Core.Path.{_≡_, refl, sym, ap, ap₂, _∙_, subst}
-use Prim.Native.Nat.{ℕ, zero, suc, _+_, _/_, _%_, _≤_, _<_}
-use native.Mathlib.Omega.{arith}
+use mathlib.Core.Path.{_≡_, sym, ap, _∙_}
+use Prim.Native.Nat.{ℕ, suc, _/_, _<_}
 use borrow.Author.Tests.{eqb-true, eqb-false, lt-ltb}
-use lib.Dec.{ltb, eqb}
+use lib.Dec.{ltb}
 use lib.ListN.{length, getD, drop}
 use lib.Seq.{drop-cons, drop-length}
-use Rattle.util.specs.Outcome.{Outcome, Settled, settled}
-use Rattle.util.specs.Word.{bit}
-use Rattle.store.specs.Answer.{askedPaper, didPaper, says, does, refuses}
-use Rattle.store.specs.Layout.{top, cap, isStore, StoreOf}
-use Rattle.store.specs.Word.{word, on, anc}
+use Rattle.util.specs.Outcome.{Settled, settled}
+use Rattle.store.specs.Answer.{askedPaper, didPaper}
+use Rattle.store.specs.Layout.{top, isStore, StoreOf}
+use Rattle.store.specs.Word.{word}
 use Rattle.store.specs.declared.Asked.{Asked}
 use Rattle.store.specs.declared.Asked.the-variants.{Is, Refused as AskedRefused}
 use Rattle.store.specs.declared.Did.the-variants.{Done, Refused as DidRefused}

@@ -6,7 +6,7 @@ use Prim.Native.Nat.{ℕ, zero, suc, _/_}
 use borrow.Author.Tests.{eq-eqb, ne-eqb}
 use Rattle.store.specs.Layout.{top}
 use Rattle.store.specs.Word.{word, on}
-use Rattle.bitset.specs.Edit.{addLayers, left, climb, removeLayers}
+use Rattle.bitset.specs.Edit.{addLayers, wordLeft, climb, removeLayers}
 
 module _ (N : ℕ) (s : List ℕ) (i : ℕ) where
   pub add-none : on N s 0 i ≡ 1 → addLayers N s i ≡ 0
@@ -30,14 +30,14 @@ module _ (N : ℕ) (s : List ℕ) (i : ℕ) where
   remove-some h = rw (eq-eqb (on N s 0 i) 1 h)
 
   -- one turn of the climb
-  pub climb-stop : (k d : ℕ) → left N s i k ≢ 0 → climb N s i k d ≡ suc k
+  pub climb-stop : (k d : ℕ) → wordLeft N s i k ≢ 0 → climb N s i k d ≡ suc k
   unfolding climb
   climb-stop k zero h = refl
-  climb-stop k (suc d) h = rw (ne-eqb (left N s i k) 0 h)
+  climb-stop k (suc d) h = rw (ne-eqb (wordLeft N s i k) 0 h)
 
-  pub climb-on : (k d : ℕ) → left N s i k ≡ 0 → climb N s i k (suc d) ≡ climb N s i (suc k) d
+  pub climb-on : (k d : ℕ) → wordLeft N s i k ≡ 0 → climb N s i k (suc d) ≡ climb N s i (suc k) d
   unfolding climb
-  climb-on k d h = rw (eq-eqb (left N s i k) 0 h)
+  climb-on k d h = rw (eq-eqb (wordLeft N s i k) 0 h)
 
   pub climb-top : (k : ℕ) → climb N s i k 0 ≡ suc k
   unfolding climb

@@ -1,22 +1,20 @@
 -- Where the code of a private step finds the word over an id, and that what it writes is the definition's edit.
-use mathlib.Core.Bool.{Bool, true, false, cond}
+use mathlib.Core.Bool.{Bool, false}
 use mathlib.Core.List.{List}
 use mathlib.Core.Logic.{_≢_, ⊎-elim}
-use mathlib.Core.Path.{_≡_, refl, sym, ap, ap₂, _∙_, subst}
+use mathlib.Core.Path.{_≡_, refl, sym, ap, ap₂, _∙_}
 use Prim.Native.Nat.{ℕ, zero, suc, _+_, _-_, _*_, _/_, _%_, _^_, _≤_, _<_}
-use native.Mathlib.Numerals.{add-one}
 use native.Mathlib.Nat.{eq-or-lt-of-le, le-of-suc-le-suc}
 use native.Mathlib.Omega.{arith}
 use lib.ListN.{length, getD, set, take, drop, length-take, length-drop}
 use Rattle.util.specs.Word.{change}
-use Rattle.store.specs.Layout.{top, room, layerLen, layerStart, layerEnd, cap, endOf}
+use Rattle.store.specs.Layout.{top, cap, endOf}
 use Rattle.store.specs.Word.{word, anc, put}
-use Rattle.store.proofs.Ends.{Part, part}
 use Rattle.store.proofs.Geometry.{store-kept}
-use Rattle.store.proofs.Words.{word-in, word-put-same, place-in, anc-in, anc-shift}
+use Rattle.store.proofs.Words.{word-put-same, anc-shift}
 use Rattle.members.specs.Place.{Placed}
 use Rattle.members.proofs.Spots.{spot, ranged, word-there}
-use Rattle.bitset.specs.Edit.{edit, edits, left, climb, Edited}
+use Rattle.bitset.specs.Edit.{edit, edits, wordLeft, climb, Edited}
 use Rattle.bitset.proofs.Edits.{length-edits, cap-edits, word-edits-same}
 use Rattle.bitset.proofs.Moves.{climb-on, climb-stop, climb-top}
 
@@ -77,7 +75,7 @@ module _ (on : Bool) {s : List ℕ} {N i : ℕ} (p : Placed s N i 0) where
 
 -- ---- the climb: the layers below k kept no bit
 
-climb-past : (N : ℕ) (s : List ℕ) (i k d : ℕ) → ((j : ℕ) → j < k → left N s i j ≡ 0) → climb N s i 0 (k + d) ≡ climb N s i k d
+climb-past : (N : ℕ) (s : List ℕ) (i k d : ℕ) → ((j : ℕ) → j < k → wordLeft N s i j ≡ 0) → climb N s i 0 (k + d) ≡ climb N s i k d
 climb-past N s i zero d h = let e : 0 + d ≡ d = omega arith in ap (climb N s i 0) e
 climb-past N s i (suc k) d h =
     let e : suc k + d ≡ k + suc d = omega arith in
@@ -86,7 +84,7 @@ climb-past N s i (suc k) d h =
 -- the k lowest layers are cleared, and none of their words keeps a bit
 pub record Climbing (s : List ℕ) (N i k : ℕ) (t : List ℕ) : Type 0 where
   pub memory : t ≡ edits false N s i k
-  pub zeros : (j : ℕ) → j < k → left N s i j ≡ 0
+  pub zeros : (j : ℕ) → j < k → wordLeft N s i j ≡ 0
 
 module _ {s : List ℕ} {N i : ℕ} (p : Placed s N i 0) where
   pub climb-none : Climbing s N i 0 s
@@ -97,16 +95,16 @@ module _ {s : List ℕ} {N i : ℕ} (p : Placed s N i 0) where
     climb-placed = placed false p k t h (g .memory)
 
     module _ {u : List ℕ} {r : ℕ} (d : Edited false t N i k u r) where
-      word-left : r ≡ left N s i k
-      unfolding left
+      word-left : r ≡ wordLeft N s i k
+      unfolding wordLeft
       word-left = leaves false p k t u r h (g .memory) d
 
       -- the word keeps no bit, so the next layer is cleared
       pub climb-more : r ≡ 0 → Climbing s N i (suc k) u
       climb-more z = record { memory = one-more false p k t u r (g .memory) d; zeros = below }
         where
-          below : (j : ℕ) → j < suc k → left N s i j ≡ 0
-          below j l = ⊎-elim (λ (e : j ≡ k). ap (left N s i) e ∙ sym word-left ∙ z) (λ (e : j < k). g .zeros j e) (eq-or-lt-of-le (le-of-suc-le-suc l))
+          below : (j : ℕ) → j < suc k → wordLeft N s i j ≡ 0
+          below j l = ⊎-elim (λ (e : j ≡ k). ap (wordLeft N s i) e ∙ sym word-left ∙ z) (λ (e : j < k). g .zeros j e) (eq-or-lt-of-le (le-of-suc-le-suc l))
 
       -- it keeps one, or there is no next layer
       pub climb-ends : r ≢ 0 → u ≡ edits false N s i (climb N s i 0 (top N))

@@ -26,13 +26,13 @@ unfoldable pub addLayers : ℕ → List ℕ → ℕ → ℕ
 addLayers N s i = cond (holds N s i) 0 (cond (eqb (word N s 0 (i / 64)) 0) (suc (top N)) 1)
 
 -- what is left of the word over i in layer k once its bit is cleared
-unfoldable pub left : ℕ → List ℕ → ℕ → ℕ → ℕ
-left N s i k = change false (word N s k (anc i k / 64)) (anc i k % 64)
+unfoldable pub wordLeft : ℕ → List ℕ → ℕ → ℕ → ℕ
+wordLeft N s i k = change false (word N s k (anc i k / 64)) (anc i k % 64)
 
 -- the first of the d layers from k on whose word keeps a bit, counted from 1; the one after them where none does
 unfoldable pub climb : ℕ → List ℕ → ℕ → ℕ → ℕ → ℕ
 climb N s i k zero = suc k
-climb N s i k (suc d) = let r = climb N s i (suc k) d in cond (eqb (left N s i k) 0) r (suc k)
+climb N s i k (suc d) = let r = climb N s i (suc k) d in cond (eqb (wordLeft N s i k) 0) r (suc k)
 
 -- The layers that removing i writes: none if it is not held; "the layers above only should be cleared if the bit cleared was the last
 -- bit in its set" (the crate), so it goes up while words become 0.

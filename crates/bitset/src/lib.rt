@@ -1,14 +1,12 @@
 // Changing the set over one lent store: the Rust's lib.rs, `BitSet`. Every call tests the store itself and refuses by number. `contains`
 // of `members` is passed on, for the calls for C.
-ghost use mathlib.Core.Bool.{Bool, true, false};
+ghost use mathlib.Core.Bool.{true, false};
 ghost use mathlib.Core.Path.{_≡_};
-ghost use Prim.Native.Nat.{ℕ, suc, _/_, _≤_, _<_};
-ghost use lib.Dec.{ltb};
+ghost use Prim.Native.Nat.{suc, _<_};
 ghost use lib.ListN.{length};
 ghost use Rattle.util.specs.Outcome.{Settled};
 ghost use Rattle.store.specs.Answer.{askedPaper, didPaper};
 ghost use Rattle.store.specs.Layout.{top, StoreOf};
-ghost use Rattle.store.specs.Word.{word};
 ghost use Rattle.members.specs.Place.{Placed, Inside};
 ghost use Rattle.bitset.specs.Edit.{edits, addLayers, climb, removeLayers, Written, Edited, Moved};
 ghost use Rattle.bitset.specs.Calls.{addOf, removeOf, allBelow, addAll, addListOf};

@@ -26,9 +26,9 @@ use Rattle.bitset.specs.Calls.{moveOf, allBelow, addAll, addListOf}
 use Rattle.bitset.specs.Edit.{edit, edits, layersOf}
 use Rattle.bitset.proofs.Edits.{length-edits, cap-edits}
 use Rattle.sets.proofs.Moves.{sound-add, sound-remove}
-use Rattle.merging.specs.Calls.{isPair, assignOf, mergedOf, Assigned}
-use Rattle.merging.proofs.Theorems.{paired, store-merged, words-merged, sound-merged, leaves-merged}
-use Rattle.roundtrip.specs.Claims.{Fine}
+use Rattle.merging.specs.Calls.{mergeable, assignOf, mergedOf, Assigned}
+use Rattle.merging.proofs.Theorems.{both-stores, store-merged, words-merged, sound-merged, leaves-merged}
+use Rattle.roundtrip.specs.Claims.{SoundStore}
 use Rattle.roundtrip.proofs.Theorems.{read-keeps}
 use Rattle.claims.specs.Reached.{Reached}
 use Rattle.claims.specs.Reached.Reached.{opened, added, removed, listed, cleared, merged, read}
@@ -61,11 +61,11 @@ words-empty N h (suc x) = go (decLt x (storeLen N - 1))
 
 -- ---- each call
 
-fine-empty : (N : ℕ) → 1 ≤ N → N ≤ maxCap → Fine N (empty N)
+fine-empty : (N : ℕ) → 1 ≤ N → N ≤ maxCap → SoundStore N (empty N)
 fine-empty N some most = record { is = store-empty N some most; words = words-empty N most; sound = sound-empty N some }
 
 -- an id with room added, or removed
-fine-edits : (b : Bool) {N : ℕ} {s : List ℕ} → Fine N s → (i : ℕ) → i < N → Fine N (edits b N s i (layersOf b N s i))
+fine-edits : (b : Bool) {N : ℕ} {s : List ℕ} → SoundStore N s → (i : ℕ) → i < N → SoundStore N (edits b N s i (layersOf b N s i))
 fine-edits b {N} {s} f i h = record {
   is = store-kept (f .is) (length-edits b N s i (layersOf b N s i)) (cap-edits b N s i (layersOf b N s i));
   words = words-edits b N s i (layersOf b N s i) (f .words);
@@ -76,28 +76,28 @@ fine-edits b {N} {s} f i h = record {
     go true = sound-add N s i (f .is .long) h (f .sound)
     go false = sound-remove N s i (f .is .long) h (f .sound)
 
-fine-move : (b : Bool) (past : Outcome (List ℕ)) {N : ℕ} {s : List ℕ} → Fine N s → past .lent ≡ s → (i : ℕ) → Fine N (moveOf b past s i .lent)
+fine-move : (b : Bool) (past : Outcome (List ℕ)) {N : ℕ} {s : List ℕ} → SoundStore N s → past .lent ≡ s → (i : ℕ) → SoundStore N (moveOf b past s i .lent)
 unfolding moveOf
 fine-move b past {N} {s} f same i = rw (is-store (f .is), f .is .names) (go (ltb i N) refl)
   where
-    go : (x : Bool) → ltb i N ≡ x → Fine N (cond x (says (holds N s i) (edits b N s i (layersOf b N s i))) past .lent)
+    go : (x : Bool) → ltb i N ≡ x → SoundStore N (cond x (says (holds N s i) (edits b N s i (layersOf b N s i))) past .lent)
     go true e = fine-edits b f i (ltb-true i N e)
-    go false e = subst (Fine N) (sym same) f
+    go false e = subst (SoundStore N) (sym same) f
 
-fine-all : {N : ℕ} (ids : List ℕ) {s : List ℕ} → Fine N s → allBelow N ids ≡ true → Fine N (addAll N s ids)
+fine-all : {N : ℕ} (ids : List ℕ) {s : List ℕ} → SoundStore N s → allBelow N ids ≡ true → SoundStore N (addAll N s ids)
 unfolding addAll allBelow
 fine-all [] f h = f
 fine-all {N} (i ∷ l) f h = let b = both (ltb i N) (allBelow N l) h in fine-all l (fine-edits true f i (ltb-true i N (b .0))) (b .1)
 
-fine-list : {N : ℕ} {s : List ℕ} → Fine N s → (ids : List ℕ) → Fine N (addListOf s ids .lent)
+fine-list : {N : ℕ} {s : List ℕ} → SoundStore N s → (ids : List ℕ) → SoundStore N (addListOf s ids .lent)
 unfolding addListOf
 fine-list {N} {s} f ids = rw (is-store (f .is), f .is .names) (go (allBelow N ids) refl)
   where
-    go : (x : Bool) → allBelow N ids ≡ x → Fine N (cond x (does (addAll N s ids)) (refuses 3 s) .lent)
+    go : (x : Bool) → allBelow N ids ≡ x → SoundStore N (cond x (does (addAll N s ids)) (refuses 3 s) .lent)
     go true e = fine-all ids f e
     go false e = f
 
-fine-clear : {N : ℕ} {s : List ℕ} → Fine N s → Fine N (clearOf s .lent)
+fine-clear : {N : ℕ} {s : List ℕ} → SoundStore N s → SoundStore N (clearOf s .lent)
 unfolding clearOf
 fine-clear {N} f = rw (is-store (f .is), f .is .names) (fine-empty N (f .is .some) (f .is .most))
 
@@ -105,42 +105,42 @@ cap-is : {N : ℕ} → 1 ≤ N → N ≤ maxCap → isCap N ≡ true
 unfolding isCap
 cap-is {N} some most = rw (le-leb 1 N some, le-leb N maxCap most)
 
-fine-open : (N : ℕ) (s : List ℕ) → 1 ≤ N → N ≤ maxCap → length s ≡ storeLen N → Fine N (openOf s N .lent)
+fine-open : (N : ℕ) (s : List ℕ) → 1 ≤ N → N ≤ maxCap → length s ≡ storeLen N → SoundStore N (openOf s N .lent)
 unfolding openOf
 fine-open N s some most l = rw (cap-is some most, eq-eqb (length s) (storeLen N) l) (fine-empty N some most)
 
 -- in place: of equal capacity the merged store, and of another nothing is changed
-fine-merged : {s t : List ℕ} (op : ℕ) → Fine (cap s) s → Fine (cap t) t → isPair s t ≡ true → Fine (cap s) (mergedOf op s t)
+fine-merged : {s t : List ℕ} (op : ℕ) → SoundStore (cap s) s → SoundStore (cap t) t → mergeable s t ≡ true → SoundStore (cap s) (mergedOf op s t)
 fine-merged {s} {t} op f g h =
-    let p = paired s t h in
+    let p = both-stores s t h in
     record {
       is = store-merged s t p (f .words) (g .words) op;
       words = words-merged s t p (f .words) (g .words) op;
       sound = sound-merged s t p (f .words) (g .words) op (f .sound) (subst (λ (n : ℕ). Sound n t) (p .caps) (g .sound));
     }
 
-fine-assigned : {s t u : List ℕ} {r : Did} (op : ℕ) → Fine (cap s) s → Fine (cap t) t → Assigned op s t r u → Fine (cap s) u
-unfolding isPair assignOf
+fine-assigned : {s t u : List ℕ} {r : Did} (op : ℕ) → SoundStore (cap s) s → SoundStore (cap t) t → Assigned op s t r u → SoundStore (cap s) u
+unfolding mergeable assignOf
 fine-assigned {s} {t} {u} op f g v = go (eqb (cap s) (cap t)) refl
   where
-    go : (x : Bool) → eqb (cap s) (cap t) ≡ x → Fine (cap s) u
+    go : (x : Bool) → eqb (cap s) (cap t) ≡ x → SoundStore (cap s) u
     go true e =
-        let h : isPair s t ≡ true = rw (is-store (f .is), is-store (g .is), e) in
-        subst (Fine (cap s)) (sym (leaves-merged v h (f .sound) (g .sound))) (fine-merged op f g h)
+        let h : mergeable s t ≡ true = rw (is-store (f .is), is-store (g .is), e) in
+        subst (SoundStore (cap s)) (sym (leaves-merged v h (f .sound) (g .sound))) (fine-merged op f g h)
     go false e =
-        let n : isPair s t ≡ false = rw (is-store (f .is), is-store (g .is), e) in
+        let n : mergeable s t ≡ false = rw (is-store (f .is), is-store (g .is), e) in
         let k : assignOf op s t .lent ≡ s = rw (is-store (f .is), is-store (g .is), e) in
-        subst (Fine (cap s)) (sym (v .whole (λ h. absurd (true≢false (sym h ∙ n))) .memory ∙ k)) f
+        subst (SoundStore (cap s)) (sym (v .whole (λ h. absurd (true≢false (sym h ∙ n))) .memory ∙ k)) f
 
 -- a store's own capacity
-own : {N : ℕ} {s : List ℕ} → Fine N s → Fine (cap s) s
-own {s = s} f = subst (λ (n : ℕ). Fine n s) (sym (f .is .names)) f
+own : {N : ℕ} {s : List ℕ} → SoundStore N s → SoundStore (cap s) s
+own {s = s} f = subst (λ (n : ℕ). SoundStore n s) (sym (f .is .names)) f
 
-fine-merge : {N M : ℕ} {s t u : List ℕ} {r : Did} (op : ℕ) → Fine N s → Fine M t → Assigned op s t r u → Fine N u
-fine-merge {u = u} op f g v = subst (λ (n : ℕ). Fine n u) (f .is .names) (fine-assigned op (own f) (own g) v)
+fine-merge : {N M : ℕ} {s t u : List ℕ} {r : Did} (op : ℕ) → SoundStore N s → SoundStore M t → Assigned op s t r u → SoundStore N u
+fine-merge {u = u} op f g v = subst (λ (n : ℕ). SoundStore n u) (f .is .names) (fine-assigned op (own f) (own g) v)
 
 -- A REACHED STORE is a store of its capacity, of words, and sound.
-pub reached-fine : {N : ℕ} {s : List ℕ} → Reached N s → Fine N s
+pub reached-fine : {N : ℕ} {s : List ℕ} → Reached N s → SoundStore N s
 reached-fine (opened s some most l) = fine-open _ s some most l
 reached-fine (added {s = s} r i) = fine-move true (refuses 3 s) (reached-fine r) refl i
 reached-fine (removed {s = s} r i) = fine-move false (says false s) (reached-fine r) refl i

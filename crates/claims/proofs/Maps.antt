@@ -19,7 +19,7 @@ use Rattle.chunkmap.specs.Calls.{writeOf}
 use Rattle.chunkmap.specs.Map.{wordsIn, mapOf, mapLen}
 use Rattle.chunkmap.specs.declared.Wrote.the-variants.{Length}
 use Rattle.mapread.specs.Calls.{readOf}
-use Rattle.roundtrip.specs.Claims.{Fine}
+use Rattle.roundtrip.specs.Claims.{SoundStore}
 use Rattle.roundtrip.proofs.Theorems.{written-length, written-read, written-read-part, round-trip-members, round-trip-same}
 use Rattle.claims.specs.Again.{Again}
 use Rattle.claims.specs.Reached.{Reached}
@@ -27,7 +27,7 @@ use Rattle.claims.specs.Reached.Reached.{read}
 use Rattle.claims.proofs.Histories.{reached-fine}
 
 -- a writer that answers a length had room for the map
-had-room : {N : ℕ} {s : List ℕ} → Fine N s → (b : List ℕ) (v : ℕ) → writeOf s b .numbers ≡ 0 ∷ v ∷ [] → mapLen (wordsIn N s) ≤ length b
+had-room : {N : ℕ} {s : List ℕ} → SoundStore N s → (b : List ℕ) (v : ℕ) → writeOf s b .numbers ≡ 0 ∷ v ∷ [] → mapLen (wordsIn N s) ≤ length b
 unfolding writeOf
 had-room {N} {s} f b v = rw (is-store (f .is), f .is .names) (go (leb (mapLen (wordsIn N s)) (length b)) refl)
   where

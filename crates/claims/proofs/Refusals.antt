@@ -42,7 +42,7 @@ use Rattle.codes.specs.Check.{besideOf, sooner, storesOf, checkOf}
 use Rattle.formula.specs.Calls.{capOf, layerWordOf, containsOf as formulaContainsOf, isEmptyOf as formulaIsEmptyOf}
 use Rattle.formula_iter.specs.Calls.{refusalIn, startIn as formulaStartIn, nextIn as formulaNextIn}
 use Rattle.formula_fill.specs.Calls.{fillIn as formulaFillIn}
-use Rattle.merging.specs.Calls.{isPair, assignOf, Assigned}
+use Rattle.merging.specs.Calls.{mergeable, assignOf, Assigned}
 use Rattle.chunkmap.specs.Answer.{wrotePaper}
 use Rattle.chunkmap.specs.Calls.{writeOf}
 use Rattle.chunkmap.specs.Map.{wordsIn, mapLen}
@@ -51,7 +51,7 @@ use Rattle.mapread.specs.Calls.{readOf}
 use Rattle.mapread.specs.Judge.{capIn, countIn, usedIn, table, headOk, good, total, judgeOf}
 use Rattle.util.proofs.Same.{both}
 use Rattle.claims.specs.Calls.Call.{«open», add, remove, contains, addList, isEmpty, clear, containsSet, equal, getFromLayer, layerAsSlice, averageOnes, firstFree, isSound, rebuild, bitorAssign, bitandAssign, bitxorAssign, start, next, fill, containsF, isEmptyF, getFromLayerF, startF, nextF, fillF, write, read, iterR, nextR, firstR}
-use Rattle.claims.specs.Calls.{Answer, Memory, Meets, refusal, Refuses, Refused, Call, promiseOf, partPaper, partOf, noBatch, toldPaper, toldRefused, toldOf, moved}
+use Rattle.claims.specs.Calls.{Answer, Memory, Meets, refusal, lastRefusal, Refuses, Refused, Call, promiseOf, partPaper, partOf, noBatch, toldPaper, toldRefused, toldOf, moved}
 
 -- what holds of both cases holds of the one chosen
 by-cond : {A : Type 0} (P : A → Type 0) (b : Bool) {x y : A} → P x → P y → P (cond b x y)
@@ -62,7 +62,7 @@ by-cond P false p q = q
 
 -- where its first number is not 0, the outcome is a refusal
 record Stays {R X : Type 0} (p : Paper R) (f : ℕ → R) (x : X) (o : Outcome X) : Type 0 where
-  known : getD (o .numbers) 0 0 ≤ 12
+  known : getD (o .numbers) 0 0 ≤ lastRefusal
   numbers : getD (o .numbers) 0 0 ≢ 0 → o .numbers ≡ p .numbers (f (getD (o .numbers) 0 0))
   lent : getD (o .numbers) 0 0 ≢ 0 → o .lent ≡ x
 
@@ -70,7 +70,7 @@ module _ {R X : Type 0} {p : Paper R} {f : ℕ → R} {x : X} where
   goes : {o : Outcome X} → getD (o .numbers) 0 0 ≡ 0 → Stays p f x o
   goes e = record { known = omega arith; numbers = λ n. absurd (n e); lent = λ n. absurd (n e) }
 
-  stays : (n : ℕ) → n ≤ 12 → p .numbers (f n) ≡ n ∷ [] → Stays p f x (refuses n x)
+  stays : (n : ℕ) → n ≤ lastRefusal → p .numbers (f n) ≡ n ∷ [] → Stays p f x (refuses n x)
   stays n h e = record { known = h; numbers = λ z. sym e; lent = λ z. refl }
 
   choose : (b : Bool) {o o′ : Outcome X} → Stays p f x o → Stays p f x o′ → Stays p f x (cond b o o′)
@@ -83,7 +83,7 @@ module _ {R X : Type 0} {p : Paper R} {f : ℕ → R} {x : X} where
       let e : getD (p .numbers r) 0 0 ≡ getD (o .numbers) 0 0 = ap (λ (l : List ℕ). getD l 0 0) (s .answer) in
       let m : getD (o .numbers) 0 0 ≢ 0 = λ z. n (e ∙ z) in
       record {
-        known = subst (λ (i : ℕ). i ≤ 12) (sym e) (k .known);
+        known = subst (λ (i : ℕ). i ≤ lastRefusal) (sym e) (k .known);
         answer =
             sym (p .same r) ∙ ap (p .answer) (s .answer ∙ k .numbers m) ∙ p .same (f (getD (o .numbers) 0 0))
             ∙ ap f (sym e);
@@ -161,8 +161,8 @@ assign-stays : (op : ℕ) (s t : List ℕ) → Stays didPaper DidRefused s (assi
 unfolding assignOf
 assign-stays op s t = choose (isStore s && isStore t) (choose (eqb (cap s) (cap t)) (goes refl) (stays 5 (omega arith) refl)) (stays 2 (omega arith) refl)
 
-pair-goes : (op : ℕ) (s t : List ℕ) → isPair s t ≡ true → getD (assignOf op s t .numbers) 0 0 ≡ 0
-unfolding isPair assignOf
+pair-goes : (op : ℕ) (s t : List ℕ) → mergeable s t ≡ true → getD (assignOf op s t .numbers) 0 0 ≡ 0
+unfolding mergeable assignOf
 pair-goes op s t h = let b = both (isStore s && isStore t) (eqb (cap s) (cap t)) h in rw (b .0, b .1)
 
 assign-refuses : (op : ℕ) (s t : List ℕ) {r : Did} {y : List ℕ} → Assigned op s t r y → getD (didPaper .numbers r) 0 0 ≢ 0
@@ -209,14 +209,14 @@ module _ (c : Cursor) where
   abbrev StepStays : Step → Type 0
   StepStays a = Stays stepPaper (λ n. refused n c) tt (written a)
 
-  no-step : (n : ℕ) → n ≤ 12 → StepStays (refused n c)
+  no-step : (n : ℕ) → n ≤ lastRefusal → StepStays (refused n c)
   no-step n h = record { known = h; numbers = λ z. refl; lent = λ z. refl }
 
   module _ (out : List ℕ) where
     abbrev FillStays : Filled → Type 0
     FillStays f = Stays batchPaper (noBatch c) out (filled f out)
 
-    no-fill : (n : ℕ) → n ≤ 12 → FillStays (stopped (StopRefused n) 0 c)
+    no-fill : (n : ℕ) → n ≤ lastRefusal → FillStays (stopped (StopRefused n) 0 c)
     no-fill n h = record { known = h; numbers = λ z. refl; lent = λ z. refl }
 
 start-stays : (s : List ℕ) (c : Cursor) → StepStays c (startIn s c)

@@ -12,7 +12,7 @@ use Rattle.util.proofs.Same.{both}
 use Rattle.store.specs.Layout.{cap, isStore}
 use Rattle.store.specs.Word.{Sound}
 use Rattle.store.specs.declared.Did.the-variants.{Done}
-use Rattle.merging.specs.Calls.{isPair, assignOf}
+use Rattle.merging.specs.Calls.{mergeable, assignOf}
 use Rattle.merging.proofs.Theorems.{assigned-answers, assigned-settles}
 use Rattle.layers.specs.Calls.{layerPart}
 use Rattle.iter.specs.declared.Cursor.{Cursor}
@@ -66,9 +66,9 @@ reached-whole r q op h = (sound r, sound q)
     sound {s = s} r = let f = reached-fine r in subst (λ (n : ℕ). Sound n s) (sym (f .is .names)) (f .sound)
 
 -- and no more is fixed than that: two stores of equal capacity that are not both sound may become any list with that length and word 0
-pub exception-open : (op : ℕ) (s t u : List ℕ) → isPair s t ≡ true → (((Sound (cap s) s) × (Sound (cap t) t)) → ⊥) → length u ≡ length s → cap u ≡ cap s
+pub exception-open : (op : ℕ) (s t u : List ℕ) → mergeable s t ≡ true → (((Sound (cap s) s) × (Sound (cap t) t)) → ⊥) → length u ≡ length s → cap u ≡ cap s
     → Meets (merges op s t) Done u
-unfolding isPair assignOf
+unfolding mergeable assignOf
 exception-open op s t u h n l c =
     let b = both (isStore s && isStore t) (eqb (cap s) (cap t)) h in
     record { answer = rw (b .0, b .1); long = l; names = c; whole = λ z. absurd (n (z h)) }

@@ -9,16 +9,16 @@ use lib.ListN.{length, List·getD-eq-default}
 use Rattle.store.specs.Layout.{top, cap}
 use Rattle.store.specs.Word.{Words64}
 use Rattle.iter.specs.declared.Cursor.{Cursor}
-use Rattle.demand.specs.Fills.{Ask, Some as SomeAsks, AllStopped}
+use Rattle.demand.specs.Calls.{Ask, Some, AllStopped}
 use Rattle.demand.specs.Under.{allIds, allReads}
-use Rattle.demand.specs.Walks.{Some, AllKept, Spaced}
+use Rattle.demand.specs.Walks.{Spaced}
 use Rattle.codes.specs.Tree.{four, nth}
 use Rattle.formula.specs.Calls.{wordsOf}
 use Rattle.formula_iter.specs.Calls.{startIn}
 use Rattle.algebra.specs.Sides.{Sounds, UnionCodes}
-use Rattle.algebra.specs.Walks.{nextOver, fillOver, walkOver, fillsOver, readsOf, Walked}
+use Rattle.algebra.specs.Walks.{nextOver, callOver, walkOver, readsOf, Walked}
 use Rattle.algebra.proofs.Answers.{sounds}
-use Rattle.algebra.proofs.Calls.{formula-kept, formula-fills-kept, formula-walked, formula-filled, formula-over, formula-fills-over, formula-spaced, and-reads-left, and-reads-right}
+use Rattle.algebra.proofs.Calls.{formula-kept, formula-walked, formula-over, formula-spaced, and-reads-left, and-reads-right}
 use Rattle.claims.specs.Lent.{Lent}
 use Rattle.claims.proofs.Histories.{reached-fine}
 
@@ -38,34 +38,24 @@ module _ (a b c d : List ℕ) where
 
   module _ {cs : List ℕ} (l : Lent ss cs) where
     -- "However it is cut by read budgets, a walk that ends has handed out exactly the formula's members, each once, ascending, and reported
-    -- the count of words that the definition says it reads."
-    pub walk-members : (k : Cursor) (bs : List ℕ) → walkOver ss cs k bs .over ≡ true → Walked ss cs k (walkOver ss cs k bs)
+    -- the count of words that the definition says it reads." Its calls may be next and fill in any mix.
+    pub walk-members : (k : Cursor) (q : List Ask) → walkOver ss cs k q .over ≡ true → Walked ss cs k (walkOver ss cs k q)
     walk-members = formula-walked a b c d cs (l .accepted) (sounds-lent l)
 
-    pub fills-members : (k : Cursor) (q : List Ask) → fillsOver ss cs k q .over ≡ true → Walked ss cs k (fillsOver ss cs k q)
-    fills-members = formula-filled a b c d cs (l .accepted) (sounds-lent l)
-
     -- it does end, and no call refuses or reads past its budget
-    pub walk-ends : (k : Cursor) (bs : List ℕ) → Some bs → allReads (wordsOf ss cs) (top (cap a)) + length (allIds (wordsOf ss cs) (top (cap a))) ≤ length bs
-        → walkOver ss cs k bs .over ≡ true
+    pub walk-ends : (k : Cursor) (q : List Ask) → Some q → allReads (wordsOf ss cs) (top (cap a)) + length (allIds (wordsOf ss cs) (top (cap a))) ≤ length q
+        → walkOver ss cs k q .over ≡ true
     walk-ends = formula-over a b c d cs (l .accepted) (sounds-lent l)
 
-    pub fills-end : (k : Cursor) (q : List Ask) → SomeAsks q → allReads (wordsOf ss cs) (top (cap a)) + length (allIds (wordsOf ss cs) (top (cap a))) ≤ length q
-        → fillsOver ss cs k q .over ≡ true
-    fills-end = formula-fills-over a b c d cs (l .accepted) (sounds-lent l)
-
-    pub walk-keeps : (k : Cursor) (bs : List ℕ) → AllKept (nextOver ss cs) bs (startIn ss cs k .cursor)
+    pub walk-keeps : (k : Cursor) (q : List Ask) → AllStopped (callOver ss cs) q (startIn ss cs k .cursor)
     walk-keeps = formula-kept a b c d cs (l .accepted) (sounds-lent l)
-
-    pub fills-keep : (k : Cursor) (q : List Ask) → AllStopped (fillOver ss cs) q (startIn ss cs k .cursor)
-    fills-keep = formula-fills-kept a b c d cs (l .accepted) (sounds-lent l)
 
     -- "On one store or a union of stores, after the top word, at most three words are read before each next member and none before the end."
     pub walk-gaps : UnionCodes cs → (k : Cursor) (bs : List ℕ) → Spaced (top (cap a)) (nextOver ss cs) bs (startIn ss cs k .cursor) 0
     walk-gaps = formula-spaced a b c d cs (l .accepted) (sounds-lent l)
 
   -- "An intersection reads no more than either side alone."
-  module _ (f g : List ℕ) (left : Lent ss f) (right : Lent ss g) (l : Lent ss (f ++ (g ++ 16 ∷ []))) (k m : Cursor) (bs qs : List ℕ) where
+  module _ (f g : List ℕ) (left : Lent ss f) (right : Lent ss g) (l : Lent ss (f ++ (g ++ 16 ∷ []))) (k m : Cursor) (bs qs : List Ask) where
     abbrev fg : List ℕ
     fg = f ++ (g ++ 16 ∷ [])
 

@@ -36,7 +36,7 @@ use Rattle.fill.specs.Fill.{batchPaper, batch, stopped, fillOf}
 use Rattle.formula.specs.Calls.{layerWordOf, containsOf as formulaContainsOf, isEmptyOf as formulaIsEmptyOf}
 use Rattle.formula_iter.specs.Calls.{startOf as formulaStartOf, nextOf as formulaNextOf}
 use Rattle.formula_fill.specs.Calls.{fillOf as formulaFillOf}
-use Rattle.merging.specs.Calls.{Sounds, Assigned}
+use Rattle.merging.specs.Calls.{BothSound, Assigned}
 use Rattle.chunkmap.specs.Answer.{wrotePaper}
 use Rattle.chunkmap.specs.Calls.{writeOf}
 use Rattle.chunkmap.specs.declared.Wrote.the-variants.{Refused as WroteRefused}
@@ -81,10 +81,14 @@ refusal (tells p o) r = 0
 refusal (merges op s t) r = getD (didPaper .numbers r) 0 0
 refusal (makes s c) r = 0
 
+-- the last number of the table "Refusals by number"
+abbrev pub lastRefusal : ℕ
+lastRefusal = 12
+
 -- "Each returns its number and zeros elsewhere and changes nothing lent; a refused next hands back its cursor as given." The number n is one
 -- of the table, and f n is the answer with zeros elsewhere.
 pub record Refuses {R X : Type 0} (f : ℕ → R) (x : X) (n : ℕ) (r : R) (y : X) : Type 0 where
-  pub known : n ≤ 12
+  pub known : n ≤ lastRefusal
   pub answer : r ≡ f n
   pub memory : y ≡ x
 
@@ -100,7 +104,7 @@ Refused (makes s c) r y = ⊥
 abbrev pub Whole : Promise → Type 0
 Whole (fixes p f x o) = Unit {0}
 Whole (tells p o) = Unit {0}
-Whole (merges op s t) = Sounds s t
+Whole (merges op s t) = BothSound s t
 Whole (makes s c) = Unit {0}
 
 -- what two outcomes share for every input: all, but in place the answer, the length and word 0

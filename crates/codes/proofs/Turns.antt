@@ -22,9 +22,6 @@ module _ (c : ℕ) where
   unfolding kindOf
   kind-store h = rw (lt-ltb c 4 h)
 
-  pub kind-at : (n : ℕ) → c ≡ n → kindOf c ≡ kindOf n
-  kind-at n e = ap kindOf e
-
   pub kind-unknown : 4 ≤ c → (c < 16) ⊎ (19 ≤ c) → c ≢ 19 → c ≢ 20 → kindOf c ≡ isUnknown
   unfolding kindOf
   kind-unknown h o n19 n20 =

@@ -9,31 +9,20 @@ use Rattle.iter.specs.declared.Next.{Next}
 use Rattle.iter.specs.declared.Next.the-variants.{Member, Paused, End, Refused}
 use Rattle.iter.specs.declared.Step.{Step}
 use Rattle.iter.specs.Calls.{Fine}
-use Rattle.iter.specs.Walk.{startAt, next, Run, onward, runBy, walk}
+use Rattle.iter.specs.Walk.{startAt, next}
+use Rattle.fill.specs.Fill.{Filled, fillFrom}
 use Rattle.demand.specs.Under.{allIds, allReads}
-use Rattle.demand.specs.Walks.{Bounded, Full, Some, Kept, AllKept, spacedBy, Spaced, Nexts}
-use Rattle.demand.proofs.Ends.{next-kept, walk-ends, walk-all}
+use Rattle.demand.specs.Calls.{Ask, budgetOf, roomOf, alone, asked, Keeps, Some, Run, onward, runBy, AllStopped, fillAt, Nexts, Fills}
+use Rattle.demand.specs.Calls.Ask.{one, many}
+use Rattle.demand.specs.Walks.{Bounded, Full, spacedBy, Spaced}
+use Rattle.demand.proofs.Ends.{walk-ends, walk-all}
+use Rattle.demand.proofs.Fills.{fill-moved}
 use Rattle.demand.proofs.Gaps.{spaced}
 use Rattle.demand.proofs.Prefixes.{next-fine}
 use Rattle.demand.proofs.Rest.{moved-next}
 use Rattle.demand.proofs.Taken.{Wf, start-wf, start-fine}
 
 module _ (lw : ℕ → ℕ → ℕ) (bounded : Bounded lw) (t : ℕ) (call : ℕ → Cursor → Step) (is : Nexts lw t call) where
-  run-is : (bs : List ℕ) (c : Cursor) → Wf t c → Fine t (c .prefix) → runBy call c bs ≡ walk lw t c bs
-  unfolding runBy
-  run-is [] c wf f = refl
-  run-is (b ∷ bs) c wf f =
-      let a = next lw t b c in
-      ap (λ (x : Step). onward (x .answer) (x .reads) (runBy call (x .cursor) bs)) (is b c f)
-      ∙ ap (onward (a .answer) (a .reads)) (run-is bs (a .cursor) (moved-next lw bounded t b c wf .wf) (next-fine lw bounded t b c wf f))
-
-  kept-from : (bs : List ℕ) (c : Cursor) → Wf t c → Fine t (c .prefix) → AllKept call bs c
-  unfolding AllKept
-  kept-from [] c wf f = tt
-  kept-from (b ∷ bs) c wf f =
-      subst (λ (x : Step). Kept b (x .answer) (x .reads) × AllKept call bs (x .cursor)) (sym (is b c f))
-      (next-kept lw t b c, kept-from bs (next lw t b c .cursor) (moved-next lw bounded t b c wf .wf) (next-fine lw bounded t b c wf f))
-
   spaced-from : (bs : List ℕ) (c : Cursor) (r : ℕ) → Wf t c → Fine t (c .prefix) → Spaced t (next lw t) bs c r → Spaced t call bs c r
   unfolding Spaced
   spaced-from [] c r wf f h = tt
@@ -50,30 +39,56 @@ module _ (lw : ℕ → ℕ → ℕ) (bounded : Bounded lw) (t : ℕ) (call : ℕ
       go End n f h = h
       go (Refused m) n f h = h
 
-  -- ---- from the start
+  -- where every set summary bit stands over a word that is not 0: at most t words before each next member, and none before the end
+  pub calls-spaced : Full lw t → (bs : List ℕ) → Spaced t call bs (startAt t (lw t 0)) 0
+  calls-spaced full bs =
+      spaced-from bs (startAt t (lw t 0)) 0 (start-wf t (lw t 0) (bounded t 0)) (start-fine t (lw t 0)) (spaced lw bounded t full bs)
+
+-- ---- next and fill, in any mix
+
+-- a next is a fill of one place
+one-place : (lw : ℕ → ℕ → ℕ) (t b : ℕ) (c : Cursor) → alone (next lw t b c) ≡ fillFrom lw t 1 b c
+unfolding fillFrom
+one-place lw t b c = refl
+
+module _ (lw : ℕ → ℕ → ℕ) (bounded : Bounded lw) (t : ℕ) (nexts : ℕ → Cursor → Step) (fills : ℕ → ℕ → Cursor → Filled) where
+  abbrev call : Ask → Cursor → Filled
+  call = asked nexts fills
 
   abbrev begin : Cursor
   begin = startAt t (lw t 0)
 
-  walk-is : (bs : List ℕ) → runBy call begin bs ≡ walk lw t begin bs
-  walk-is bs = run-is bs begin (start-wf t (lw t 0) (bounded t 0)) (start-fine t (lw t 0))
+  module _ (is : Nexts lw t nexts) (are : Fills lw t fills) where
+    call-is : (a : Ask) (c : Cursor) → Fine t (c .prefix) → call a c ≡ fillAt lw t a c
+    call-is (one b) c f = ap alone (is b c f) ∙ one-place lw t b c
+    call-is (many b m) c f = are b m c f
 
-  -- no call refuses or reads past its budget, and a paused one has spent it
-  pub calls-kept : (bs : List ℕ) → AllKept call bs begin
-  calls-kept bs = kept-from bs begin (start-wf t (lw t 0) (bounded t 0)) (start-fine t (lw t 0))
+    calls-are : (l : List Ask) (c : Cursor) → Wf t c → Fine t (c .prefix) → (runBy call c l ≡ runBy (fillAt lw t) c l) × AllStopped call l c
+    unfolding runBy AllStopped
+    calls-are [] c wf f = (refl, tt)
+    calls-are (a ∷ l) c wf f =
+        let g = fillAt lw t a c in
+        let m = fill-moved lw bounded t (roomOf a) (budgetOf a) c wf in
+        let i = calls-are l (g .cursor) (m .wf) (m .fine f) in (
+          ap (λ (x : Filled). onward (x .stop) (x .ids) (x .reads) (runBy call (x .cursor) l)) (call-is a c f) ∙ ap (onward (g .stop) (g .ids) (g .reads)) (i .0),
+          subst (λ (x : Filled). Keeps (budgetOf a) (roomOf a) x × AllStopped call l (x .cursor)) (sym (call-is a c f)) (m .kept, i .1),
+        )
 
-  -- calls that end have handed out the ids below the top word and, with the start's read, reported the definition's count
-  pub calls-defined : (bs : List ℕ) → runBy call begin bs .over ≡ true
-      → (runBy call begin bs .members ≡ allIds lw t) × (1 + runBy call begin bs .total ≡ allReads lw t)
-  calls-defined bs e =
-      let w = walk-is bs in
-      let r = walk-all lw bounded t bs (sym (ap (λ (x : Run). x .over) w) ∙ e) in
-      (ap (λ (x : Run). x .members) w ∙ r .0, ap (λ (x : Run). 1 + x .total) w ∙ r .1)
+    from-start : (l : List Ask) → (runBy call begin l ≡ runBy (fillAt lw t) begin l) × AllStopped call l begin
+    from-start l = calls-are l begin (start-wf t (lw t 0) (bounded t 0)) (start-fine t (lw t 0))
 
-  -- and enough calls end it
-  pub calls-over : (bs : List ℕ) → Some bs → allReads lw t + length (allIds lw t) ≤ length bs → runBy call begin bs .over ≡ true
-  calls-over bs some h = ap (λ (x : Run). x .over) (walk-is bs) ∙ walk-ends lw bounded t bs some h
+    -- no call refuses or reads past its budget, and a paused one has spent it
+    pub calls-kept : (l : List Ask) → AllStopped call l begin
+    calls-kept l = from-start l .1
 
-  -- where every set summary bit stands over a word that is not 0: at most t words before each next member, and none before the end
-  pub calls-spaced : Full lw t → (bs : List ℕ) → Spaced t call bs begin 0
-  calls-spaced full bs = spaced-from bs begin 0 (start-wf t (lw t 0) (bounded t 0)) (start-fine t (lw t 0)) (spaced lw bounded t full bs)
+    -- calls that end have handed out the ids below the top word and, with the start's read, reported the definition's count
+    pub calls-defined : (l : List Ask) → runBy call begin l .over ≡ true
+        → (runBy call begin l .members ≡ allIds lw t) × (1 + runBy call begin l .total ≡ allReads lw t)
+    calls-defined l e =
+        let w = from-start l .0 in
+        let r = walk-all lw bounded t l (sym (ap (λ (x : Run). x .over) w) ∙ e) in
+        (ap (λ (x : Run). x .members) w ∙ r .0, ap (λ (x : Run). 1 + x .total) w ∙ r .1)
+
+    -- and enough calls end it
+    pub calls-over : (l : List Ask) → Some l → allReads lw t + length (allIds lw t) ≤ length l → runBy call begin l .over ≡ true
+    calls-over l some h = ap (λ (x : Run). x .over) (from-start l .0) ∙ walk-ends lw bounded t l some h

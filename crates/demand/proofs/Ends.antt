@@ -1,70 +1,79 @@
--- What one call does with its budget, and that enough calls with a budget of one or more end the walk. Over any layer words.
-use mathlib.Core.Bool.{true}
-use mathlib.Core.List.{List, [], _∷_, _++_}
-use mathlib.Core.Path.{_≡_, refl, sym, ap, _∙_, subst}
-use Prim.Native.Nat.{ℕ, zero, suc, _+_, _≤_, _<_}
-use native.Mathlib.Numerals.{one-add}
+-- Calls one after another: where they end they have handed out and read all that the cursor had, and enough of them do end. Over any layer
+-- words.
+use mathlib.Core.Bool.{true, true≢false}
+use mathlib.Core.List.{List, [], _∷_, _++_, append-nil}
+use mathlib.Core.Path.{_≡_, refl, sym, ap, _∙_}
+use Prim.Native.Nat.{ℕ, suc, _+_, _≤_, _<_}
 use native.Mathlib.Omega.{arith}
-use lib.ListN.{length}
+use lib.ListN.{length, length-append}
 use Rattle.iter.specs.declared.Cursor.{Cursor}
-use Rattle.iter.specs.declared.Next.{Next}
-use Rattle.iter.specs.declared.Next.the-variants.{Paused}
-use Rattle.iter.specs.declared.Step.{Step}
+use Rattle.fill.specs.declared.Stop.{Stop}
+use Rattle.fill.specs.declared.Stop.the-variants.{Full, Paused as StopPaused, End as StopEnd, Refused as StopRefused}
+use Rattle.iter.specs.Walk.{startAt}
+use Rattle.fill.specs.Fill.{Filled}
 use Rattle.demand.specs.Under.{allIds, allReads}
-use Rattle.iter.specs.Walk.{Kind, kind, paused as before, more, byKind, startAt, descend, next, Run, onward, runBy, walk}
-use Rattle.iter.specs.Walk.Kind.{gives, reads, done}
+use Rattle.demand.specs.Calls.{Ask, budgetOf, roomOf, Stopped, Some, Run, onward, runBy, fillAt}
+use Rattle.demand.specs.Calls.Stopped.{full, paused, ended}
+use Rattle.demand.specs.Walks.{Bounded}
 use Rattle.demand.proofs.Taken.{Wf, start-wf}
-use Rattle.demand.proofs.Rest.{rest, cost, gone, moved-next, walk-whole, start-rest, start-cost}
-use Rattle.demand.specs.Walks.{Bounded, Some, Kept}
-use Rattle.demand.specs.Walks.Kept.{member, paused, ended}
-
-module _ (lw : ℕ → ℕ → ℕ) (t : ℕ) where
-  kept-by : (b : ℕ) (c : Cursor) (f : ℕ → Step) → ((j : ℕ) → Kept b (f j .answer) (f j .reads)) → (k : Kind)
-      → Kept b (byKind t c f k .answer) (byKind t c f k .reads)
-  kept-by b c f g gives = member {r = 0} (omega arith)
-  kept-by b c f g (reads j) = g j
-  kept-by b c f g done = ended {r = 0} (omega arith)
-
-  kept-more : (b r : ℕ) (o : Next) → Kept b o r → Kept (suc b) o (1 + r)
-  kept-more b r o (member h) = member {r = 1 + r} (omega arith)
-  kept-more b r o paused = subst (Kept (suc b) Paused) (sym (one-add b)) paused
-  kept-more b r o (ended h) = ended {r = 1 + r} (omega arith)
-
-  -- A CALL never reads past its budget, a paused one has spent it exactly, and none refuses.
-  pub next-kept : (b : ℕ) (c : Cursor) → Kept b (next lw t b c .answer) (next lw t b c .reads)
-  unfolding next
-  next-kept zero c = kept-by 0 c (λ j. before c) (λ j. paused) (kind t c)
-  next-kept (suc b) c = kept-by (suc b) c (λ j. more 1 (next lw t b (descend lw t j c)))
-      (λ j. let a = next lw t b (descend lw t j c) in kept-more b (a .reads) (a .answer) (next-kept b (descend lw t j c))) (kind t c)
-
--- ---- enough calls
-
-one-call : (b : ℕ) (o : Next) (r : ℕ) → Kept b o r → (later : Run) (x x′ : List ℕ) (q q′ m : ℕ) → 1 ≤ b → x ≡ gone o ++ x′ → q ≡ r + q′
-    → q + length x < suc m → (q′ + length x′ < m → later .over ≡ true) → onward o r later .over ≡ true
-one-call b o r (member h) later x x′ q q′ m p ex eq l ih = let e : length x ≡ suc (length x′) = ap length ex in ih (omega arith)
-one-call b o r paused later x x′ q q′ m p ex eq l ih = let e : length x ≡ length x′ = ap length ex in ih (omega arith)
-one-call b o r (ended h) later x x′ q q′ m p ex eq l ih = refl
+use Rattle.demand.proofs.Rest.{rest, cost, start-rest, start-cost}
+use Rattle.demand.proofs.Fills.{FillMoved, fill-moved}
 
 module _ (lw : ℕ → ℕ → ℕ) (bounded : Bounded lw) (t : ℕ) where
-  ends-from : (bs : List ℕ) (c : Cursor) → Wf t c → Some bs → cost lw t c (suc t) + length (rest lw t c (suc t)) < length bs → walk lw t c bs .over ≡ true
+  whole-from : (l : List Ask) (c : Cursor) → Wf t c → runBy (fillAt lw t) c l .over ≡ true
+      → (runBy (fillAt lw t) c l .members ≡ rest lw t c (suc t)) × (runBy (fillAt lw t) c l .total ≡ cost lw t c (suc t))
+  unfolding runBy
+  whole-from [] c wf e = absurd (true≢false (sym e))
+  whole-from (a ∷ l) c wf e =
+      let f = fillAt lw t a c in
+      let m = fill-moved lw bounded t (roomOf a) (budgetOf a) c wf in
+      go (f .stop) refl m (λ h. whole-from l (f .cursor) (m .wf) h) e
+    where
+      f : Filled
+      f = fillAt lw t a c
+
+      later : Run
+      later = runBy (fillAt lw t) (f .cursor) l
+
+      go : (o : Stop) → f .stop ≡ o → FillMoved lw t (budgetOf a) (roomOf a) c f
+          → (later .over ≡ true → (later .members ≡ rest lw t (f .cursor) (suc t)) × (later .total ≡ cost lw t (f .cursor) (suc t)))
+          → onward o (f .ids) (f .reads) later .over ≡ true
+          → (onward o (f .ids) (f .reads) later .members ≡ rest lw t c (suc t)) × (onward o (f .ids) (f .reads) later .total ≡ cost lw t c (suc t))
+      go Full q m ih e = let i = ih e in (ap (λ (x : List ℕ). f .ids ++ x) (i .0) ∙ sym (m .moves .ids), omega (arith, i .1, m .moves .count))
+      go StopPaused q m ih e = let i = ih e in (ap (λ (x : List ℕ). f .ids ++ x) (i .0) ∙ sym (m .moves .ids), omega (arith, i .1, m .moves .count))
+      go StopEnd q m ih e = (
+        sym (m .moves .ids ∙ ap (λ (x : List ℕ). f .ids ++ x) (m .over q .0) ∙ append-nil (f .ids)),
+        omega (arith, m .over q .1, m .moves .count),
+      )
+      go (StopRefused n) q m ih e = absurd (true≢false (sym e))
+
+  -- one that does not end makes what is left less
+  ends-from : (l : List Ask) (c : Cursor) → Wf t c → Some l → cost lw t c (suc t) + length (rest lw t c (suc t)) < length l → runBy (fillAt lw t) c l .over ≡ true
   unfolding runBy
   ends-from [] c wf s h = absurd (omega arith)
-  ends-from (b ∷ bs) c wf s h =
-      let a = next lw t b c in
-      let m = moved-next lw bounded t b c wf in
-      one-call b (a .answer) (a .reads) (next-kept lw t b c) (walk lw t (a .cursor) bs) (rest lw t c (suc t)) (rest lw t (a .cursor) (suc t))
-      (cost lw t c (suc t)) (cost lw t (a .cursor) (suc t)) (length bs) (s .0) (m .moves .ids) (m .moves .count) h (ends-from bs (a .cursor) (m .wf) (s .1))
+  ends-from (a ∷ l) c wf s h =
+      let f = fillAt lw t a c in
+      let m = fill-moved lw bounded t (roomOf a) (budgetOf a) c wf in
+      let e : length (rest lw t c (suc t)) ≡ length (f .ids) + length (rest lw t (f .cursor) (suc t)) = ap length (m .moves .ids) ∙ length-append (f .ids) (rest lw t (f .cursor) (suc t)) in
+      go (f .stop) (m .kept) (λ p. ends-from l (f .cursor) (m .wf) (s .2) (omega (arith, h, e, m .moves .count, p)))
+    where
+      later : Run
+      later = runBy (fillAt lw t) (fillAt lw t a c .cursor) l
 
-  -- A WALK from the start ends once its calls, each with a budget of one or more, are as many as its members and its reads together.
-  pub walk-ends : (bs : List ℕ) → Some bs → allReads lw t + length (allIds lw t) ≤ length bs → walk lw t (startAt t (lw t 0)) bs .over ≡ true
-  walk-ends bs s h =
-      ends-from bs (startAt t (lw t 0)) (start-wf t (lw t 0) (bounded t 0)) s
-      (omega (arith, start-cost lw t, ap length (start-rest lw t)))
+      go : (o : Stop) {n r : ℕ} → Stopped (budgetOf a) (roomOf a) o n r → (1 ≤ r + n → later .over ≡ true) → onward o (fillAt lw t a c .ids) (fillAt lw t a c .reads) later .over ≡ true
+      go Full (full x) ih = ih (omega (arith, s .1))
+      go StopPaused (paused x) ih = ih (omega (arith, s .0))
+      go StopEnd (ended x y) ih = refl
 
-  -- THE WALK. Whatever the budgets: one that ends has handed out exactly the ids below the top word, in the definition's order, and with
-  -- the start's read it has reported the definition's count.
-  pub walk-all : (bs : List ℕ) → walk lw t (startAt t (lw t 0)) bs .over ≡ true
-      → (walk lw t (startAt t (lw t 0)) bs .members ≡ allIds lw t) × (1 + walk lw t (startAt t (lw t 0)) bs .total ≡ allReads lw t)
-  walk-all bs e =
-      let r = walk-whole lw bounded t bs (startAt t (lw t 0)) (start-wf t (lw t 0) (bounded t 0)) e in
+  -- THE WALK. Whatever the calls, next and fill mixed, and their budgets and places: a walk that ends has handed out exactly the ids below
+  -- the top word, in the definition's order, and with the start's read it has reported the definition's count.
+  pub walk-all : (l : List Ask) → runBy (fillAt lw t) (startAt t (lw t 0)) l .over ≡ true
+      → (runBy (fillAt lw t) (startAt t (lw t 0)) l .members ≡ allIds lw t) × (1 + runBy (fillAt lw t) (startAt t (lw t 0)) l .total ≡ allReads lw t)
+  walk-all l e =
+      let r = whole-from l (startAt t (lw t 0)) (start-wf t (lw t 0) (bounded t 0)) e in
       (r .0 ∙ start-rest lw t, ap (λ (x : ℕ). 1 + x) (r .1) ∙ start-cost lw t)
+
+  -- It ends once its calls, each with a budget and places of one or more, are as many as its members and its reads together.
+  pub walk-ends : (l : List Ask) → Some l → allReads lw t + length (allIds lw t) ≤ length l → runBy (fillAt lw t) (startAt t (lw t 0)) l .over ≡ true
+  walk-ends l s h =
+      ends-from l (startAt t (lw t 0)) (start-wf t (lw t 0) (bounded t 0)) s (omega (arith, start-cost lw t, ap length (start-rest lw t)))

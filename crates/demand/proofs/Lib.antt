@@ -1,10 +1,10 @@
 pub mod Taken
 pub mod Rest
-pub mod Ends
 pub mod Prefixes
+pub mod Fills
+pub mod Ends
 pub mod Members
 pub mod Gaps
 pub mod Fewer
 pub mod Called
 pub mod Store
-pub mod Fills

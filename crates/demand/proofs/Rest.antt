@@ -19,7 +19,7 @@ use Rattle.iter.specs.declared.Next.{Next}
 use Rattle.iter.specs.declared.Next.the-variants.{Member, Paused, End, Refused}
 use Rattle.iter.specs.declared.Step.{Step}
 use Rattle.demand.specs.Under.{joined, summed, under, readsUnder, allIds, allReads}
-use Rattle.iter.specs.Walk.{lowLayer, kindOf, kind, prefixAt, placeAt, cleared, less, handed, paused, ended, more, byKind, startAt, descend, next, Run, onward, runBy, walk}
+use Rattle.iter.specs.Walk.{lowLayer, kindOf, kind, prefixAt, placeAt, cleared, less, handed, paused, ended, more, byKind, startAt, descend, next}
 use Rattle.iter.specs.Walk.Kind.{reads, done}
 use Rattle.iter.proofs.Cursors.{Low, low-found, prefix-top}
 use Rattle.demand.proofs.Taken.{Wf, taken-mask, taken-prefix, taken-mask-up, taken-mask-else, taken-prefix-else, taken-wf, handed-wf, start-mask, start-below}
@@ -151,9 +151,6 @@ end-member v e = let z : _≡_ {A = ℕ} 0 1 = cc in omega arith
 end-paused : _≡_ {A = Next} Paused End → ⊥
 end-paused e = let z : _≡_ {A = ℕ} 0 1 = cc in omega arith
 
-not-over : _≡_ {A = Bool} false true → ⊥
-not-over e = let z : _≡_ {A = ℕ} 0 1 = cc in omega arith
-
 -- what an answer hands out
 abbrev pub gone : Next → List ℕ
 gone (Member v) = v ∷ []
@@ -202,37 +199,6 @@ module _ (lw : ℕ → ℕ → ℕ) (bounded : (k i : ℕ) → lw k i < 2 ^ 64) 
   moved-next (suc b) c wf = moved-by lw t c wf (λ j. more 1 (next lw t b (descend lw t j c)))
       (λ j h m. moved-more lw t c (descend lw t j c) (next lw t b (descend lw t j c)) m
       (moved-next b (descend lw t j c) (taken-wf t c j (placeAt t c (suc j)) (lw j (placeAt t c (suc j))) wf h (bounded j (placeAt t c (suc j))))))
-
-  -- ---- calls one after another: whatever the budgets, where the walk ends it handed out what the cursor had, and read what the definition says
-  pub walk-whole : (bs : List ℕ) (c : Cursor) → Wf t c → walk lw t c bs .over ≡ true
-      → (walk lw t c bs .members ≡ rest lw t c (suc t)) × (walk lw t c bs .total ≡ cost lw t c (suc t))
-  unfolding runBy
-  walk-whole [] c wf e = absurd (not-over e)
-  walk-whole (b ∷ bs) c wf e =
-      let a = next lw t b c in
-      go (a .answer) refl (moved-next b c wf) (λ w. walk-whole bs (a .cursor) w) e
-    where
-      a : Step
-      a = next lw t b c
-
-      later : Run
-      later = walk lw t (a .cursor) bs
-
-      ids : (o : Next) → a .answer ≡ o → Moved lw t c a → gone o ++ rest lw t (a .cursor) (suc t) ≡ rest lw t c (suc t)
-      ids o q m = sym (m .moves .ids ∙ ap (λ (x : Next). gone x ++ rest lw t (a .cursor) (suc t)) q)
-
-      go : (o : Next) → a .answer ≡ o → Moved lw t c a
-          → (Wf t (a .cursor) → later .over ≡ true → (later .members ≡ rest lw t (a .cursor) (suc t)) × (later .total ≡ cost lw t (a .cursor) (suc t)))
-          → onward o (a .reads) later .over ≡ true
-          → (onward o (a .reads) later .members ≡ rest lw t c (suc t)) × (onward o (a .reads) later .total ≡ cost lw t c (suc t))
-      go (Member v) q m ih e =
-          let l = ih (m .wf) e in
-          (ap (λ (x : List ℕ). v ∷ x) (l .0) ∙ ids (Member v) q m, omega (arith, l .1, m .moves .count))
-      go Paused q m ih e =
-          let l = ih (m .wf) e in
-          (l .0 ∙ ids Paused q m, omega (arith, l .1, m .moves .count))
-      go End q m ih e = (sym (m .ended q .0) ∙ ids End q m, omega (arith, m .ended q .1, m .moves .count))
-      go (Refused n) q m ih e = absurd (not-over e)
 
 -- ---- from the start: all of the definition, but for the top word that the start read
 

@@ -1,4 +1,4 @@
--- Walks of one store, by the public definitions: started, and then a call of next for each budget of a list.
+-- Walks of one store, by the public definitions: started, and then a call for each ask of a list.
 use mathlib.Core.Bool.{true}
 use mathlib.Core.List.{List, List·Memᴰ}
 use mathlib.Core.Logic.{_↔_, _≢_}
@@ -17,10 +17,12 @@ use Rattle.iter.specs.declared.Cursor.{Cursor}
 use Rattle.iter.specs.declared.Step.{Step}
 use Rattle.iter.specs.Calls.{startIn}
 use Rattle.demand.specs.Under.{allIds, allReads}
-use Rattle.iter.specs.Walk.{startAt, Run, runBy}
+use Rattle.iter.specs.Walk.{startAt}
 use Rattle.iter.proofs.Answers.{start-is, next-runs}
 use Rattle.iter.proofs.Cursors.{fit-of}
-use Rattle.demand.specs.Walks.{onAt, Clear, Full, Some, AllKept, Spaced, Nexts, nextOn, walkOn, Walked}
+use Rattle.fill.proofs.Fills.{fill-runs}
+use Rattle.demand.specs.Calls.{Ask, Some, Run, runBy, AllStopped, Nexts, Fills}
+use Rattle.demand.specs.Walks.{onAt, Clear, Full, Spaced, nextOn, fillOn, callOn, walkOn, Walked}
 use Rattle.demand.proofs.Called.{calls-kept, calls-defined, calls-over, calls-spaced}
 use Rattle.demand.proofs.Members.{ids-below}
 
@@ -61,31 +63,36 @@ module _ (s : List ℕ) (is : isStore s ≡ true) (small : Words64 s) where
   abbrev t : ℕ
   t = top (cap s)
 
-  call-is : Nexts lw t (nextOn s)
-  call-is b c f = sym (next-runs (store-is is) c b (fit-of t (c .prefix) f))
+  next-is : Nexts lw t (nextOn s)
+  next-is b c f = sym (next-runs (store-is is) c b (fit-of t (c .prefix) f))
+
+  pub fill-is : Fills lw t (fillOn s)
+  fill-is b m c f = sym (fill-runs (store-is is) c b m (fit-of t (c .prefix) f))
 
   start-cursor : (c : Cursor) → startIn s c .cursor ≡ startAt t (lw t 0)
   start-cursor c = ap (λ (x : Step). x .cursor) (start-is (store-is is) c)
 
-  from-start : (c : Cursor) (bs : List ℕ) → walkOn s c bs ≡ runBy (nextOn s) (startAt t (lw t 0)) bs
-  from-start c bs = ap (λ (x : Cursor). runBy (nextOn s) x bs) (start-cursor c)
+  from-start : (c : Cursor) (l : List Ask) → walkOn s c l ≡ runBy (callOn s) (startAt t (lw t 0)) l
+  from-start c l = ap (λ (x : Cursor). runBy (callOn s) x l) (start-cursor c)
 
   -- A STARTED WALK of a store, sound or not: no call of it refuses or reads past its budget, and a paused one has spent it
-  pub walk-kept : (c : Cursor) (bs : List ℕ) → AllKept (nextOn s) bs (startIn s c .cursor)
-  walk-kept c bs = subst (AllKept (nextOn s) bs) (sym (start-cursor c)) (calls-kept lw (word-lt (cap s) s small) t (nextOn s) call-is bs)
+  pub walk-kept : (c : Cursor) (l : List Ask) → AllStopped (callOn s) l (startIn s c .cursor)
+  walk-kept c l =
+      subst (AllStopped (callOn s) l) (sym (start-cursor c)) (calls-kept lw (word-lt (cap s) s small) t (nextOn s) (fillOn s) next-is fill-is l)
 
   -- One that ends has handed out the ids below the top word and reported the definition's count; and enough calls end it.
-  pub walk-defined : (c : Cursor) (bs : List ℕ) → walkOn s c bs .over ≡ true
-      → (walkOn s c bs .members ≡ allIds lw t) × (startIn s c .reads + walkOn s c bs .total ≡ allReads lw t)
-  walk-defined c bs e =
-      let w = from-start c bs in
-      let r = calls-defined lw (word-lt (cap s) s small) t (nextOn s) call-is bs (sym (ap (λ (x : Run). x .over) w) ∙ e) in (
+  pub walk-defined : (c : Cursor) (l : List Ask) → walkOn s c l .over ≡ true
+      → (walkOn s c l .members ≡ allIds lw t) × (startIn s c .reads + walkOn s c l .total ≡ allReads lw t)
+  walk-defined c l e =
+      let w = from-start c l in
+      let r = calls-defined lw (word-lt (cap s) s small) t (nextOn s) (fillOn s) next-is fill-is l (sym (ap (λ (x : Run). x .over) w) ∙ e) in (
         ap (λ (x : Run). x .members) w ∙ r .0,
         ap₂ (λ (x : Step) (y : Run). x .reads + y .total) (start-is (store-is is) c) w ∙ r .1,
       )
 
-  pub walk-over : (c : Cursor) (bs : List ℕ) → Some bs → allReads lw t + length (allIds lw t) ≤ length bs → walkOn s c bs .over ≡ true
-  walk-over c bs some h = ap (λ (x : Run). x .over) (from-start c bs) ∙ calls-over lw (word-lt (cap s) s small) t (nextOn s) call-is bs some h
+  pub walk-over : (c : Cursor) (l : List Ask) → Some l → allReads lw t + length (allIds lw t) ≤ length l → walkOn s c l .over ≡ true
+  walk-over c l some h =
+      ap (λ (x : Run). x .over) (from-start c l) ∙ calls-over lw (word-lt (cap s) s small) t (nextOn s) (fillOn s) next-is fill-is l some h
 
 -- ---- on a sound store
 
@@ -95,14 +102,14 @@ module _ (s : List ℕ) (is : isStore s ≡ true) (small : Words64 s) (z : Sound
   unfolding members
   ids-members = sound-ids (cap s) s z (store-is is .most)
 
-  -- A WALK of a sound store that ends, however it is cut by budgets
-  pub walked : (c : Cursor) (bs : List ℕ) → walkOn s c bs .over ≡ true → Walked s c bs
-  walked c bs e =
-      let d = walk-defined s is small c bs e in
-      let m : walkOn s c bs .members ≡ members s = d .0 ∙ ids-members in
+  -- A WALK of a sound store that ends, however it is cut into calls of next and of fill
+  pub walked : (c : Cursor) (l : List Ask) → walkOn s c l .over ≡ true → Walked s c l
+  walked c l e =
+      let d = walk-defined s is small c l e in
+      let m : walkOn s c l .members ≡ members s = d .0 ∙ ids-members in
       record {
         members-all = m;
-        exact = λ i. subst (λ (l : List ℕ). List·Memᴰ i l ↔ Member s i) (sym m) (members-are s i);
+        exact = λ i. subst (λ (x : List ℕ). List·Memᴰ i x ↔ Member s i) (sym m) (members-are s i);
         rising = subst (Rising 0) (sym m) (members-rise s);
         counted = d .1;
       }
@@ -112,4 +119,4 @@ module _ (s : List ℕ) (is : isStore s ≡ true) (small : Words64 s) (z : Sound
   walk-spaced c bs =
       let lw = word (cap s) s in
       subst (λ (x : Cursor). Spaced (top (cap s)) (nextOn s) bs x 0) (sym (start-cursor s is small c))
-      (calls-spaced lw (word-lt (cap s) s small) (top (cap s)) (nextOn s) (call-is s is small) (sound-full (cap s) s z) bs)
+      (calls-spaced lw (word-lt (cap s) s small) (top (cap s)) (nextOn s) (next-is s is small) (sound-full (cap s) s z) bs)

@@ -1,3 +1,3 @@
 pub mod Under
+pub mod Calls
 pub mod Walks
-pub mod Fills

@@ -10,8 +10,9 @@ use Rattle.iter.specs.declared.Cursor.{Cursor}
 use Rattle.iter.specs.declared.Next.{Next}
 use Rattle.iter.specs.declared.Next.the-variants.{Member, Paused, End, Refused}
 use Rattle.iter.specs.declared.Step.{Step}
-use Rattle.iter.specs.Calls.{Fine, startIn, nextIn}
-use Rattle.iter.specs.Walk.{next, Run, runBy}
+use Rattle.iter.specs.Calls.{startIn, nextIn}
+use Rattle.fill.specs.Fill.{Filled, fillIn}
+use Rattle.demand.specs.Calls.{Ask, asked, Run, runBy}
 use Rattle.demand.specs.Under.{allReads}
 
 -- ---- layer words
@@ -38,21 +39,11 @@ Within lw lv t = (k p i : ℕ) → k ≤ t → i < 64 → bit (lw k p) i ≤ bit
 
 -- ---- budgets and gaps
 
--- every budget of a list is one or more
-abbrev pub Some : List ℕ → Type 0
-Some [] = Unit {0}
-Some (b ∷ bs) = (1 ≤ b) × Some bs
-
 -- an answer at budget b with its reads: a member or the end within the budget, or paused with all of it spent; never a refusal
 pub data Kept (b : ℕ) : Next → ℕ → Type 0 where
   member : {v r : ℕ} → r ≤ b → Kept b (Member v) r
   paused : Kept b Paused b
   ended : {r : ℕ} → r ≤ b → Kept b End r
-
--- so for every call of a walk, one for each budget of a list
-unfoldable pub AllKept : (ℕ → Cursor → Step) → List ℕ → Cursor → Type 0
-AllKept call [] c = Unit {0}
-AllKept call (b ∷ bs) c = let a = call b c in Kept b (a .answer) (a .reads) × AllKept call bs (a .cursor)
 
 -- "after the top word, at most three words are read before each next member and none before the end": n words were read since the last
 -- member, or since the start, when this answer comes; t is the top layer's number
@@ -67,25 +58,25 @@ unfoldable pub Spaced : ℕ → (ℕ → Cursor → Step) → List ℕ → Curso
 Spaced t call [] c r = Unit {0}
 Spaced t call (b ∷ bs) c r = let a = call b c in spacedBy t (a .answer) (r + a .reads) (Spaced t call bs (a .cursor))
 
--- ---- calls
-
--- a call, the budget first, that is next over the layer words at every cursor whose prefixes fit
-abbrev pub Nexts : (ℕ → ℕ → ℕ) → ℕ → (ℕ → Cursor → Step) → Type 0
-Nexts lw t call = (b : ℕ) (c : Cursor) → Fine t (c .prefix) → call b c ≡ next lw t b c
-
 -- ---- on one store
 
--- a call of next, the budget first
+-- a call of next and of fill, the budget first, and one of either by what it is asked for
 abbrev pub nextOn : List ℕ → ℕ → Cursor → Step
 nextOn s b c = nextIn s c b
 
--- started with any cursor, and then a call of next for each budget; its total is the reads after the start's
-abbrev pub walkOn : List ℕ → Cursor → List ℕ → Run
-walkOn s c bs = runBy (nextOn s) (startIn s c .cursor) bs
+abbrev pub fillOn : List ℕ → ℕ → ℕ → Cursor → Filled
+fillOn s b m c = fillIn s c b m
+
+abbrev pub callOn : List ℕ → Ask → Cursor → Filled
+callOn s = asked (nextOn s) (fillOn s)
+
+-- started with any cursor, and then a call for each ask of a list; its total is the reads after the start's
+abbrev pub walkOn : List ℕ → Cursor → List Ask → Run
+walkOn s c l = runBy (callOn s) (startIn s c .cursor) l
 
 -- what a walk that ended did: exactly the members, each once, rising; and the reads, the start's among them, that the definition counts
-pub record Walked (s : List ℕ) (c : Cursor) (bs : List ℕ) : Type 0 where
-  pub members-all : walkOn s c bs .members ≡ members s
-  pub exact : (i : ℕ) → List·Memᴰ i (walkOn s c bs .members) ↔ MemberOf s i
-  pub rising : Rising 0 (walkOn s c bs .members)
-  pub counted : startIn s c .reads + walkOn s c bs .total ≡ allReads (word (cap s) s) (top (cap s))
+pub record Walked (s : List ℕ) (c : Cursor) (l : List Ask) : Type 0 where
+  pub members-all : walkOn s c l .members ≡ members s
+  pub exact : (i : ℕ) → List·Memᴰ i (walkOn s c l .members) ↔ MemberOf s i
+  pub rising : Rising 0 (walkOn s c l .members)
+  pub counted : startIn s c .reads + walkOn s c l .total ≡ allReads (word (cap s) s) (top (cap s))

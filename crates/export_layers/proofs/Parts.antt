@@ -4,12 +4,12 @@ use mathlib.Core.List.{List}
 use mathlib.Core.Path.{_≡_, refl, sym, ap₂, _∙_}
 use Prim.Native.Nat.{ℕ, suc, _+_, _-_, _≤_}
 use native.Mathlib.Omega.{arith}
-use Rattle.store.specs.Layout.{top, layerLen, layerStart, cap, isStore, StoreOf, endOf}
-use Rattle.store.proofs.Ends.{Part as Place, part}
+use Rattle.store.specs.Layout.{top, layerLen, cap, isStore, StoreOf, endOf}
+use Rattle.store.proofs.Ends.{part}
 use Rattle.store.proofs.Geometry.{is-store, store-is, room-falls}
 use Rattle.layers.specs.Calls.{layerPart}
 use Rattle.abi.specs.declared.Part.{Part}
-use Rattle.export_layers.specs.Parts.{partOf, wordsOf}
+use Rattle.export_layers.specs.Parts.{partOf, partWords}
 
 -- ---- the ways out of the code
 
@@ -29,11 +29,11 @@ part-is {N} {s} z k a e h a-is e-is =
 
 -- ---- the words that are told are the layer
 
-pub part-words : (s : List ℕ) (k : ℕ) → wordsOf s (partOf s k) ≡ layerPart s k
+pub part-words : (s : List ℕ) (k : ℕ) → partWords s (partOf s k) ≡ layerPart s k
 unfolding partOf layerPart
 part-words s k = go (isStore s) refl
   where
-    go : (b : Bool) → isStore s ≡ b → wordsOf s (partOf s k) ≡ layerPart s k
+    go : (b : Bool) → isStore s ≡ b → partWords s (partOf s k) ≡ layerPart s k
     go true h = rw h
     go false h = rw h
 

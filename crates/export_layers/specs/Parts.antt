@@ -14,5 +14,5 @@ partOf s k =
     (record { start = 0; length = 0 })
 
 -- the words that a part names
-abbrev pub wordsOf : List ℕ → Part → List ℕ
-wordsOf s p = take (p .length) (drop (p .start) s)
+abbrev pub partWords : List ℕ → Part → List ℕ
+partWords s p = take (p .length) (drop (p .start) s)

@@ -1,7 +1,7 @@
 // Reading the layers, for C and Rust: slices arrive as pointer and length, and a layer is told by where it stands.
 ghost use mathlib.Core.Path.{_≡_};
 ghost use Prim.Native.Nat.{_≤_};
-ghost use Rattle.layers.specs.Calls.{wordOf, layerPart};
+ghost use Rattle.layers.specs.Calls.{wordOf};
 ghost use Rattle.abi.specs.Abi.{answerOf};
 ghost use Rattle.export_layers.specs.Parts.{partOf};
 use abi::Answer;

@@ -10,7 +10,7 @@ use Rattle.desk.specs.Slots.{numberOf, partOf}
 use Rattle.iter.specs.declared.Cursor.{Cursor}
 use Rattle.fill.specs.declared.Batch.{Batch}
 use Rattle.fill.specs.Fill.{batchPaper}
-use Rattle.operands.specs.Operands.{byteOf, numbersOf, codesOf, slicesOf}
+use Rattle.operands.specs.Operands.{byteOf, numbersOf, codesOf}
 use Rattle.operands.proofs.Loads.{codes-are, slices-are}
 use Rattle.cursors.specs.Cursors.{cursorOf}
 use Rattle.places.specs.Places.{lowsOf}

@@ -9,7 +9,7 @@ use native.Mathlib.Omega.{arith}
 use lib.ListN.{length, getD, set, drop, length-append, length-set}
 use lib.Seq.{drop-cons, set-at}
 use Rattle.util.specs.Outcome.{Outcome, Settled, settled, settles}
-use Rattle.store.specs.Layout.{top, cap, isStore, capacityOf, StoreOf}
+use Rattle.store.specs.Layout.{top, isStore, capacityOf, StoreOf}
 use Rattle.store.specs.Word.{word}
 use Rattle.store.proofs.Geometry.{is-store}
 use Rattle.layers.specs.Calls.{layerPart}

@@ -1,6 +1,6 @@
 -- Many members in one call, by one call of next after another: as many members as `out` holds or the budget allows, the same members,
 -- reads and cursor as that many calls of next have; places of `out` that are not used stay as they were.
-use mathlib.Core.Bool.{Bool, cond}
+use mathlib.Core.Bool.{cond}
 use mathlib.Core.List.{List, [], _∷_, _++_}
 use mathlib.Core.Path.{_≡_, refl, ap₂}
 use Prim.Native.Nat.{ℕ, zero, suc, _+_, _-_}

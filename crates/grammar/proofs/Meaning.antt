@@ -1,7 +1,7 @@
 -- The definition of a line says what document 01 says: which lines are commands, that an id as it is printed is read as itself, and that
 -- 13 bytes of a line decide what it means.
 use mathlib.Core.Bool.{Bool, true, false, cond}
-use mathlib.Core.List.{List, [], _∷_, _++_, append-nil}
+use mathlib.Core.List.{List, [], _∷_, append-nil}
 use mathlib.Core.Path.{_≡_, refl, sym, ap, _∙_}
 use Prim.Native.Nat.{ℕ, zero, suc, _+_, _-_, _/_, _%_, _^_, _≤_, _<_}
 use native.Mathlib.Decide.{decLt}
@@ -13,6 +13,7 @@ use lib.Seq.{take-all}
 use Rattle.input.specs.Number.{digitOf, digits, valueAfter}
 use Rattle.text.specs.Out.{spelled, decimalOf}
 use Rattle.input.proofs.Digits.{digit-low, digit-high, digit-is}
+use Rattle.grammar.specs.Spells.{Digit, Spells, Means}
 use Rattle.grammar.proofs.Spelled.{as-spelled}
 use Rattle.text.proofs.Spelling.{next-power, spelled-one, spelled-more}
 use Rattle.lines.specs.Line.{idOf, withId, commandOf}
@@ -23,9 +24,6 @@ use Rattle.lines.specs.declared.Command.the-variants.{Add, Remove, Contains, Li
 use Rattle.lines.proofs.Parsing.{id-long, id-none, id-great, id-more, id-is, with-a, with-r, with-c, blank}
 
 -- ---- decimal digits
-
-abbrev Digit : ℕ → Type 0
-Digit b = (48 ≤ b) × (b ≤ 57)
 
 digit-first : (b : ℕ) (bs : List ℕ) → digitOf b < 10 → digits (b ∷ bs) ≡ digitOf b ∷ digits bs
 unfolding digits
@@ -73,16 +71,6 @@ each-digit (b ∷ bs) e k l = go (each-digit bs) k l (decLt (digitOf b) 10)
 
 -- ---- which lines are commands
 
--- "a blank, 1 to 10 decimal digits no greater than 4294967295" behind a letter, and nothing else
-pub record Spells (letter i : ℕ) (line : List ℕ) : Type 0 where
-  pub bytes : List ℕ
-  pub line-is : line ≡ letter ∷ 32 ∷ bytes
-  pub some : 1 ≤ length bytes
-  pub few : length bytes ≤ 10
-  pub each : (k : ℕ) → k < length bytes → Digit (getD bytes k 0)
-  pub value : valueAfter 0 (digits bytes) ≡ i
-  pub fits : i ≤ 4294967295
-
 -- A line that spells a letter and an id is that letter's command.
 pub meant : {letter i : ℕ} {line : List ℕ} → Spells letter i line → commandOf line ≡ withId letter (At i)
 meant {letter} {i} s =
@@ -93,13 +81,6 @@ meant {letter} {i} s =
     (id-is (s .bytes) (s .few) (λ z. omega (arith, s .some)) (omega (arith, s .value, s .fits)) (omega arith) ∙ ap At (s .value))
 
 -- and no other line is that command
-abbrev Means : List ℕ → Command → Type 0
-Means line (Add i) = Spells 97 i line
-Means line (Remove i) = Spells 114 i line
-Means line (Contains i) = Spells 99 i line
-Means line Members = line ≡ 119 ∷ []
-Means line Unknown = Unit {0}
-
 pick : (line : List ℕ) (a b : Command) (t : Bool) → (t ≡ true → Means line a) → Means line b → Means line (cond t a b)
 pick line a b true f g = f refl
 pick line a b false f g = g

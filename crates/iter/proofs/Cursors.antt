@@ -2,24 +2,23 @@
 use mathlib.Core.Bool.{Bool, true, false, cond, _&&_, true≢false}
 use mathlib.Core.List.{List}
 use mathlib.Core.Logic.{_≢_, ⊎-elim}
-use mathlib.Core.Path.{_≡_, refl, sym, ap, ap₂, _∙_, subst}
+use mathlib.Core.Path.{_≡_, refl, sym, ap, _∙_, subst}
 use Prim.Native.Nat.{ℕ, zero, suc, _+_, _-_, _*_, _%_, _^_, _≤_, _<_}
 use native.Mathlib.Decide.{ℕ-discrete, decLt}
-use native.Mathlib.Nat.{le-of-suc-le-suc, eq-or-lt-of-le, one-le-pow, pow-suc, pow-le-pow-right, lt-of-lt-of-le}
+use native.Mathlib.Nat.{le-of-suc-le-suc, eq-or-lt-of-le, pow-suc, pow-le-pow-right}
 use native.Mathlib.Omega.{arith}
 use borrow.Author.Tests.{lt-ltb, le-ltb, eq-eqb, eqb-true, eqb-false, ltb-true, ltb-false}
 use lib.Dec.{ltb, eqb}
-use lib.ListN.{length, getD, set, length-set, replicate, length-replicate}
+use lib.ListN.{length, getD, set}
 use lib.Seq.{getD-set-same, getD-set-other, set-out}
-use Rattle.util.proofs.Places.{lowest}
 use Rattle.util.proofs.Same.{both}
 use Rattle.levels.specs.Levels.{between}
 pub use Rattle.levels.proofs.Masks.{low-pass, low-stop, prefix-below, prefix-top}
 use Rattle.iter.specs.declared.Cursor.{Cursor}
 use Rattle.iter.specs.Calls.{prefixesFit, Fine}
-use Rattle.iter.specs.Steps.{isReading, Descended, lowered, Lowers}
+use Rattle.iter.specs.Steps.{isReading, lowered, Lowers}
 use Rattle.iter.specs.Walk.{lowFrom, lowLayer, kindOf, kind, firstBit, prefixAt, placeAt, taken, handled}
-use Rattle.iter.specs.Walk.Kind.{gives, reads, done}
+use Rattle.iter.specs.Walk.Kind.{reads, done}
 
 -- ---- the lowest layer with a mask that is not 0
 

@@ -1,15 +1,14 @@
 -- The walk over any layer words, with no store in it: `lw k i` is word i of layer k, and t is the number of the top layer. One store is an
 -- instance of it. Document 01: "A cursor holds four masks and three prefixes, as `BitIter`." Layer k's mask and prefix stand at place k.
-use mathlib.Core.Bool.{Bool, true, false, cond}
-use mathlib.Core.List.{List, [], _∷_}
+use mathlib.Core.Bool.{cond}
+use mathlib.Core.List.{List}
 use Prim.Native.Nat.{ℕ, zero, suc, _+_, _-_, _*_, _%_, _^_}
 use lib.Dec.{ltb}
 use lib.ListN.{getD, set, replicate}
 use Rattle.levels.specs.Levels.{lowest, bare}
 unfoldable pub use Rattle.levels.specs.Levels.{lowFrom, prefixAt}
 use Rattle.iter.specs.declared.Cursor.{Cursor}
-use Rattle.iter.specs.declared.Next.{Next}
-use Rattle.iter.specs.declared.Next.the-variants.{Member, Paused, End, Refused}
+use Rattle.iter.specs.declared.Next.the-variants.{Member, Paused, End}
 use Rattle.iter.specs.declared.Step.{Step}
 
 -- ---- what a cursor stands before
@@ -98,26 +97,3 @@ module _ (lw : ℕ → ℕ → ℕ) (t : ℕ) where
   unfoldable pub next : ℕ → Cursor → Step
   next zero c = byKind t c (λ j. paused c) (kind t c)
   next (suc b) c = byKind t c (λ j. more 1 (next b (descend j c))) (kind t c)
-
--- ---- calls one after another, one for each budget of a list
-
--- the members handed out, the reads made, and whether the end was answered
-pub record Run : Type 0 where
-  pub members : List ℕ
-  pub total : ℕ
-  pub over : Bool
-
--- one call's answer and reads before what the later calls do; the end and a refusal stop it
-abbrev pub onward : Next → ℕ → Run → Run
-onward (Member v) r w = record { members = v ∷ w .members; total = r + w .total; over = w .over }
-onward Paused r w = record { members = w .members; total = r + w .total; over = w .over }
-onward End r w = record { members = []; total = r; over = true }
-onward (Refused n) r w = record { members = []; total = r; over = false }
-
--- by what one call does at a cursor with a budget
-unfoldable pub runBy : (ℕ → Cursor → Step) → Cursor → List ℕ → Run
-runBy call c [] = record { members = []; total = 0; over = false }
-runBy call c (b ∷ bs) = let a = call b c in onward (a .answer) (a .reads) (runBy call (a .cursor) bs)
-
-abbrev pub walk : (ℕ → ℕ → ℕ) → ℕ → Cursor → List ℕ → Run
-walk lw t = runBy (next lw t)

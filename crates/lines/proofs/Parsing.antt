@@ -7,10 +7,8 @@ use native.Mathlib.Omega.{arith}
 use borrow.Author.Tests.{lt-ltb, le-ltb, eq-eqb, ne-eqb}
 use lib.ListN.{length, drop, getD, length-drop}
 use Rattle.input.specs.Number.{digits, valueAfter, numberOf}
-use Rattle.input.specs.declared.Decimal.{Decimal}
 use Rattle.input.specs.declared.Decimal.the-variants.{Is, Nothing}
 use Rattle.lines.specs.Line.{idOf, withId, commandOf}
-use Rattle.lines.specs.declared.Id.{Id}
 use Rattle.lines.specs.declared.Id.the-variants.{At, Bad}
 use Rattle.lines.specs.declared.Command.the-variants.{Add, Remove, Contains, List as Members, Unknown}
 

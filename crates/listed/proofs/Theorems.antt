@@ -1,22 +1,14 @@
 -- What a caller wants: on a sound store the line names exactly the members, each once, rising.
 use mathlib.Core.Bool.{true}
-use mathlib.Core.List.{List, List·Memᴰ}
-use mathlib.Core.Logic.{_↔_}
+use mathlib.Core.List.{List}
 use mathlib.Core.Path.{_≡_, sym, ap, _∙_}
 use Prim.Native.Nat.{ℕ}
-use Rattle.util.specs.Word.{Rising}
 use Rattle.store.specs.Layout.{cap, isStore}
-use Rattle.store.specs.Word.{Member, members, Sound, Words64}
+use Rattle.store.specs.Word.{members, Sound, Words64}
 use Rattle.store.proofs.Members.{members-are, members-rise}
 use Rattle.demand.proofs.Store.{ids-members}
-use Rattle.listed.specs.Members.{lineOf, membersOf}
+use Rattle.listed.specs.Members.{lineOf, Named}
 use Rattle.listed.proofs.Naming.{line-is}
-
--- the ids that the line names
-pub record Named (s ids : List ℕ) : Type 0 where
-  pub line : membersOf s ≡ lineOf ids
-  pub exact : (i : ℕ) → List·Memᴰ i ids ↔ Member s i
-  pub rising : Rising 0 ids
 
 pub line-members : (s : List ℕ) → isStore s ≡ true → Words64 s → Sound (cap s) s → Named s (members s)
 line-members s is small z = record { line = sym (line-is s is) ∙ ap lineOf (ids-members s is small z); exact = members-are s; rising = members-rise s }

@@ -8,7 +8,7 @@ use native.Mathlib.Omega.{arith}
 use borrow.Author.Tests.{le-leb, lt-leb}
 use mir.Val.{boolByte}
 use lib.Dec.{eqb, leb}
-use lib.ListN.{length, getD, take, drop, length-set, drop-of-length-le}
+use lib.ListN.{length, getD, take, length-set, drop-of-length-le}
 use lib.Seq.{set-split, getD-set-same, getD-set-other}
 use Rattle.util.specs.Word.{keep, places}
 use Rattle.store.specs.Build.{flag}

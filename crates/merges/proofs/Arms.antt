@@ -1,8 +1,8 @@
 -- The copy's loop, what a sound store is by its answer, and what each way out of the code says and leaves.
-use mathlib.Core.Bool.{Bool, true, false, cond, _&&_, not, true≢false}
+use mathlib.Core.Bool.{Bool, true, false, cond, _&&_, true≢false}
 use mathlib.Core.List.{List, [], _∷_, _++_}
-use mathlib.Core.Path.{_≡_, refl, sym, ap, ap₂, _∙_, subst}
-use Prim.Native.Nat.{ℕ, suc, _+_, _-_, _≤_, _<_}
+use mathlib.Core.Path.{_≡_, refl, sym, ap, _∙_}
+use Prim.Native.Nat.{ℕ, _+_, _-_, _≤_, _<_}
 use native.Mathlib.Omega.{arith}
 use native.Mathlib.Numerals.{add-one}
 use borrow.Author.Tests.{lt-ltb, le-ltb, le-leb, lt-leb, eq-eqb, ne-eqb}
@@ -16,7 +16,7 @@ use Rattle.store.specs.Word.{Sound, Words64}
 use Rattle.store.proofs.Geometry.{store-is}
 use Rattle.soundness.specs.Calls.{soundOf, isSoundOf}
 use Rattle.soundness.proofs.Said.{sound-said}
-use Rattle.merging.specs.Calls.{isPair, assignOf, Sounds}
+use Rattle.merging.specs.Calls.{mergeable, assignOf, BothSound}
 use Rattle.desk.specs.Slots.{numberOf, spanOf, partOf, backOf}
 use Rattle.desk.specs.declared.Span.{Span}
 use Rattle.desk.proofs.Laws.{part-is, back-is}
@@ -73,8 +73,8 @@ sound-when s small e is =
     go true h = refl
     go false h = absurd (true≢false h)
 
-pub both-sound : (s t : List ℕ) → Words64 s → Words64 t → isUnsound s ≡ false → isUnsound t ≡ false → Sounds s t
-unfolding isPair
+pub both-sound : (s t : List ℕ) → Words64 s → Words64 t → isUnsound s ≡ false → isUnsound t ≡ false → BothSound s t
+unfolding mergeable
 both-sound s t ws wt a b h =
     let p = both (isStore s && isStore t) (eqb (cap s) (cap t)) h in
     let q = both (isStore s) (isStore t) (p .0) in

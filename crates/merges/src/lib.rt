@@ -4,7 +4,7 @@ ghost use Prim.Native.Nat.{_≤_};
 ghost use lib.ListN.{length, take};
 ghost use Rattle.said.specs.Numbers.{left};
 ghost use Rattle.desk.specs.Slots.{partOf};
-ghost use Rattle.merging.specs.Calls.{Sounds};
+ghost use Rattle.merging.specs.Calls.{BothSound};
 ghost use Rattle.merges.specs.Calls.{isMerge, isUnsound, mergeOf, soundOnlyOf, intoOf, slotsOf, changeOf};
 use said::Said;
 
@@ -42,7 +42,7 @@ fn is_unsound(part: &[u64]) -> bool
 
 // or A B, and A B, xor A B
 fn merge(part: &mut [u64], other: &[u64], word: u64) -> Said
-    requires { ⌜ Sounds (now part) (now other) ⌝ }
+    requires { ⌜ BothSound (now part) (now other) ⌝ }
     ensures { λ r. ⌜ left r (now (part .exit)) ≡ mergeOf (now (part .entry)) (now (other .entry)) word ⌝ }
 {
     match word {

@@ -15,7 +15,7 @@ use Rattle.store.specs.Word.{Sound, Words64}
 use Rattle.store.specs.declared.Did.the-variants.{Done, Refused}
 use Rattle.store.proofs.Geometry.{is-store, store-kept}
 use Rattle.operation.specs.Op.{opWord}
-use Rattle.merging.specs.Calls.{mergedOf, isPair, assignOf, Assigned}
+use Rattle.merging.specs.Calls.{mergedOf, mergeable, assignOf, Assigned}
 use Rattle.merging.specs.Tree.{Ask, Level}
 use Rattle.merging.proofs.Steps.{top-is}
 use Rattle.merging.proofs.Whole.{top-told, done-merged}
@@ -55,8 +55,8 @@ module _ {op N M : ℕ} {s t : List ℕ} {u : List ℕ} {r : ℕ} (z : StoreOf N
   there : StoreOf N u
   there = store-kept z (v .long) (v .head 0 (omega arith))
 
-  pair : isPair s t ≡ true
-  unfolding isPair
+  pair : mergeable s t ≡ true
+  unfolding mergeable
   pair = rw (is-store z, is-store y) (eq-eqb (cap s) (cap t) caps)
 
   merged : Sound N s → Sound N t → u ≡ mergedOf op s t

@@ -17,7 +17,7 @@ use Rattle.store.proofs.Words.{word-in, word-out}
 use Rattle.operation.specs.Op.{opWord, moved}
 use Rattle.groups.specs.Group.{wordsOf, overOf}
 use Rattle.groups.proofs.Named.{length-words, words-at, over-at}
-use Rattle.merging.specs.Tree.{Exact, Told, Along, Level}
+use Rattle.merging.specs.Tree.{Told, Level}
 use Rattle.merging.proofs.Parts.{put-in, put-out}
 
 -- where the group stands in a store: behind the groups before it, and as far as the store goes

@@ -25,14 +25,14 @@ use Rattle.store.proofs.Members.{same-store}
 use Rattle.store.proofs.Words.{on-lt, word-lt}
 use Rattle.operation.specs.Op.{opWord, opBit}
 use Rattle.operation.proofs.Op.{op-bit, op-lt}
-use Rattle.merging.specs.Calls.{mergedOf, isPair, Pair, assignOf, Sounds, Assigned}
+use Rattle.merging.specs.Calls.{mergedOf, mergeable, BothStores, assignOf, BothSound, Assigned}
 use Rattle.merging.proofs.Tree.{on-is}
 use Rattle.merging.proofs.Whole.{long-merged, word-merged, kept-merged}
 
 -- the test of two stores, as facts
-pub paired : (s t : List ℕ) → isPair s t ≡ true → Pair s t
-unfolding isPair
-paired s t e =
+pub both-stores : (s t : List ℕ) → mergeable s t ≡ true → BothStores s t
+unfolding mergeable
+both-stores s t e =
     let p = both (isStore s && isStore t) (eqb (cap s) (cap t)) e in
     let q = both (isStore s) (isStore t) (p .0) in
     let c : cap t ≡ cap s = sym (eqb-true (cap s) (cap t) (p .1)) in
@@ -46,7 +46,7 @@ differ-one (suc zero) (suc (suc y)) h g e = absurd (omega arith)
 differ-one (suc (suc x)) (suc y) h g e = absurd (omega arith)
 
 -- ---- THE RESULT, for two sound stores of equal capacity
-module _ (s t : List ℕ) (p : Pair s t) (ws : Words64 s) (wt : Words64 t) where
+module _ (s t : List ℕ) (p : BothStores s t) (ws : Words64 s) (wt : Words64 t) where
   abbrev low : ℕ → List ℕ
   low op = zipWith (opWord op) (layer0 (cap s) s) (layer0 (cap s) t)
 
@@ -182,18 +182,18 @@ module _ (s t : List ℕ) (p : Pair s t) (ws : Words64 s) (wt : Words64 t) where
 -- ---- THE CALLS
 
 -- what it leaves of two sound stores of equal capacity is the merged store
-pub leaves-merged : {op : ℕ} {s t : List ℕ} {r : Did} {u : List ℕ} → Assigned op s t r u → isPair s t ≡ true → Sound (cap s) s → Sound (cap t) t
+pub leaves-merged : {op : ℕ} {s t : List ℕ} {r : Did} {u : List ℕ} → Assigned op s t r u → mergeable s t ≡ true → Sound (cap s) s → Sound (cap t) t
     → u ≡ mergedOf op s t
-unfolding isPair assignOf
+unfolding mergeable assignOf
 leaves-merged {op} {s} {t} v h zs zt =
     let p = both (isStore s && isStore t) (eqb (cap s) (cap t)) h in
     v .whole (λ g. (zs, zt)) .memory ∙ rw (p .0, p .1)
 
 -- and it is sound
-pub assigned-sound : {op : ℕ} {s t : List ℕ} {r : Did} {u : List ℕ} → Words64 s → Words64 t → Assigned op s t r u → isPair s t ≡ true → Sound (cap s) s
+pub assigned-sound : {op : ℕ} {s t : List ℕ} {r : Did} {u : List ℕ} → Words64 s → Words64 t → Assigned op s t r u → mergeable s t ≡ true → Sound (cap s) s
     → Sound (cap t) t → Sound (cap u) u
 assigned-sound {op} {s} {t} {r} {u} ws wt v h zs zt =
-    let p = paired s t h in
+    let p = both-stores s t h in
     subst (Sound (cap u)) (sym (leaves-merged v h zs zt))
     (subst (λ (n : ℕ). Sound n (mergedOf op s t)) (sym (v .names))
     (sound-merged s t p ws wt op zs (subst (λ (n : ℕ). Sound n t) (p .caps) zt)))
@@ -208,5 +208,5 @@ assigned-answers {r = r} {r′ = r′} v w = (
   v .names ∙ sym (w .names),
 )
 
-pub assigned-settles : {op : ℕ} {s t : List ℕ} {r r′ : Did} {u u′ : List ℕ} → Assigned op s t r u → Assigned op s t r′ u′ → Sounds s t → (r ≡ r′) × (u ≡ u′)
+pub assigned-settles : {op : ℕ} {s t : List ℕ} {r r′ : Did} {u u′ : List ℕ} → Assigned op s t r u → Assigned op s t r′ u′ → BothSound s t → (r ≡ r′) × (u ≡ u′)
 assigned-settles v w z = settles (v .whole z) (w .whole z)

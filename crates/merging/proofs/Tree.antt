@@ -13,10 +13,10 @@ use Rattle.util.specs.Word.{bit, change}
 use Rattle.util.proofs.Bits.{bit-of-zero, change-same, change-other}
 use Rattle.store.specs.Layout.{top, layerLen, storeLen}
 use Rattle.store.specs.Word.{word, on, anc, put}
-use Rattle.store.proofs.Words.{word-out, length-put, header-put, word-put-same, word-put-other, on-put-same}
+use Rattle.store.proofs.Words.{word-out, word-put-same, word-put-other, on-put-same}
 use Rattle.operation.specs.Op.{opWord, moved}
 use Rattle.operation.proofs.Op.{op-still}
-use Rattle.merging.specs.Tree.{Exact, Told, Done, Child, Along, Level}
+use Rattle.merging.specs.Tree.{Exact, Told, Done, Child, Along}
 
 pub anc-half : (p d : ℕ) → anc (p / 64) d ≡ anc p (suc d)
 unfolding anc

@@ -17,8 +17,7 @@ use Rattle.store.proofs.Geometry.{room-falls, room-closed}
 use Rattle.store.proofs.Words.{word-out, place-in}
 use Rattle.operation.specs.Op.{opWord, moved}
 use Rattle.operation.proofs.Op.{op-none, op-lt, moved-none}
-use Rattle.merging.specs.Calls.{mergedWords, mergedOf}
-use Rattle.merging.specs.Tree.{Exact, Told, Done, Along, Level}
+use Rattle.merging.specs.Tree.{Told, Done}
 use Rattle.merging.proofs.Tree.{anc-half, on-is, some-in}
 
 -- ---- two lists word by word

@@ -23,11 +23,11 @@ unfoldable pub mergedOf : ℕ → List ℕ → List ℕ → List ℕ
 mergedOf op s t = build (cap s) (mergedWords op s t)
 
 -- two stores of equal capacity
-unfoldable pub isPair : List ℕ → List ℕ → Bool
-isPair s t = (isStore s && isStore t) && eqb (cap s) (cap t)
+unfoldable pub mergeable : List ℕ → List ℕ → Bool
+mergeable s t = (isStore s && isStore t) && eqb (cap s) (cap t)
 
 -- the same as facts
-pub record Pair (s t : List ℕ) : Type 0 where
+pub record BothStores (s t : List ℕ) : Type 0 where
   pub first : StoreOf (cap s) s
   pub second : StoreOf (cap s) t
   pub caps : cap t ≡ cap s
@@ -37,8 +37,8 @@ unfoldable pub assignOf : ℕ → List ℕ → List ℕ → Outcome (List ℕ)
 assignOf op s t = cond (isStore s && isStore t) (cond (eqb (cap s) (cap t)) (does (mergedOf op s t)) (refuses 5 s)) (refuses 2 s)
 
 -- where the call goes through, both stores are sound
-abbrev pub Sounds : List ℕ → List ℕ → Type 0
-Sounds s t = isPair s t ≡ true → (Sound (cap s) s) × (Sound (cap t) t)
+abbrev pub BothSound : List ℕ → List ℕ → Type 0
+BothSound s t = mergeable s t ≡ true → (Sound (cap s) s) × (Sound (cap t) t)
 
 -- The promise. The answer, the length and word 0 are fixed for every input, and the second store is lent to be read only. Everything is
 -- settled but where the call goes through with an unsound store: "Where either store is unsound, only word 0, the unchanged second
@@ -47,4 +47,4 @@ pub record Assigned (op : ℕ) (s t : List ℕ) (r : Did) (u : List ℕ) : Type 
   pub answer : didPaper .numbers r ≡ assignOf op s t .numbers
   pub long : length u ≡ length s
   pub names : cap u ≡ cap s
-  pub whole : Sounds s t → Settled didPaper (assignOf op s t) r u
+  pub whole : BothSound s t → Settled didPaper (assignOf op s t) r u

@@ -8,7 +8,7 @@ use Rattle.iter.specs.declared.Cursor.{Cursor}
 use Rattle.iter.specs.declared.Next.{Next}
 use Rattle.said.specs.Numbers.{left}
 use Rattle.said.specs.declared.Said.{Said}
-use Rattle.desk.specs.Slots.{spanOf, partOf, backOf}
+use Rattle.desk.specs.Slots.{spanOf, backOf}
 use Rattle.desk.specs.declared.Span.{Span}
 use Rattle.desk.proofs.Laws.{part-is, back-is}
 use Rattle.told.specs.Told.{toldOf}

@@ -13,15 +13,15 @@ use Rattle.store.specs.declared.Did.{Did}
 use Rattle.store.specs.Layout.{top, room, span, layerEnd, cap, isCap, isStore, storeLen}
 use Rattle.store.specs.Word.{members, Words64}
 use Rattle.store.proofs.Geometry.{is-store}
-use Rattle.bitset.specs.Calls.{moveOf, addOf, removeOf}
+use Rattle.bitset.specs.Calls.{moveOf}
 use Rattle.members.specs.Calls.{holds}
 use Rattle.bitset.specs.Edit.{edits, layersOf}
 use Rattle.bitset.proofs.Edits.{cap-edits, length-edits}
 use Rattle.sets.proofs.Theorems.{sound-after-add, sound-after-remove}
 use Rattle.whole.specs.Calls.{openOf}
 use Rattle.whole.proofs.Theorems.{opened as opened-is}
-use Rattle.listed.specs.Members.{lineOf}
-use Rattle.listed.proofs.Theorems.{Named, line-members}
+use Rattle.listed.specs.Members.{lineOf, Named}
+use Rattle.listed.proofs.Theorems.{line-members}
 use Rattle.lines.specs.declared.Command.{Command}
 use Rattle.lines.specs.declared.Command.the-variants.{Add, Remove, Contains, List as Members, Unknown}
 use Rattle.replies.specs.Replies.{afterOf, printedOf, Good, afterAll, opened}

@@ -18,7 +18,7 @@ use Rattle.store.proofs.Members.{same-store}
 use Rattle.store.proofs.Words.{word-in, place-in}
 use Rattle.chunkmap.specs.Map.{keptFrom, wordsIn}
 use Rattle.chunkmap.proofs.Words.{length-kept, kept-word, kept-low, kept-same}
-use Rattle.roundtrip.specs.Claims.{Fine}
+use Rattle.roundtrip.specs.Claims.{SoundStore}
 
 -- a bit below the cut is as it was
 bit-cut : (w n b : ℕ) → b < n → bit (w % 2 ^ n) b ≡ bit w b
@@ -32,7 +32,7 @@ bit-cut w n b h =
 kept-small : (N : ℕ) (ws : List ℕ) → Kept N ws → Words64 ws
 kept-small N ws k x = let l : room0 N x ≤ 64 = omega arith in omega (arith, k x, pow-mono l)
 
-pub build-fine : (N : ℕ) (ws : List ℕ) → 1 ≤ N → N ≤ maxCap → length ws ≡ layerLen N 0 → Kept N ws → Fine N (build N ws)
+pub build-fine : (N : ℕ) (ws : List ℕ) → 1 ≤ N → N ≤ maxCap → length ws ≡ layerLen N 0 → Kept N ws → SoundStore N (build N ws)
 build-fine N ws some most long k =
     record {
       is = record { some = some; most = most; names = cap-build N ws long; long = length-build N ws long some };
@@ -52,7 +52,7 @@ module _ {N : ℕ} {s : List ℕ} (z : StoreOf N s) where
   pub long-in : length (wordsIn N s) ≡ layerLen N 0
   long-in = length-kept N 0 (layer0 N s) ∙ length-drop (layerStart N 0) s ∙ omega (arith, z .long, end-step N 0 (omega arith))
 
-  pub made-fine : Fine N (build N (wordsIn N s))
+  pub made-fine : SoundStore N (build N (wordsIn N s))
   made-fine = build-fine N (wordsIn N s) (z .some) (z .most) long-in (kept-low N (layer0 N s))
 
   on-made : (p : ℕ) → p < N → on N (build N (wordsIn N s)) 0 p ≡ on N s 0 p
@@ -82,7 +82,7 @@ module _ {N : ℕ} {s : List ℕ} (z : StoreOf N s) where
       ∙ sym e
 
 -- sound stores of one capacity with the same members are equal
-pub fine-same : {N : ℕ} {x y : List ℕ} → Fine N x → Fine N y → ((i : ℕ) → Member x i ↔ Member y i) → x ≡ y
+pub fine-same : {N : ℕ} {x y : List ℕ} → SoundStore N x → SoundStore N y → ((i : ℕ) → Member x i ↔ Member y i) → x ≡ y
 fine-same {N} {x} {y} f g h =
     let a = sym (f .is .names) in
     let b = sym (g .is .names) in

@@ -23,7 +23,7 @@ use Rattle.mapread.specs.Calls.{readOf}
 use Rattle.mapread.specs.Judge.{judgeOf, usedIn, wordsOf}
 use Rattle.mapread.proofs.Layer.{length-words}
 use Rattle.mapread.proofs.Right.{Accepted, accepted, accepted-0, cap-most}
-use Rattle.roundtrip.specs.Claims.{Fine, MapOfSome}
+use Rattle.roundtrip.specs.Claims.{SoundStore, MapOfSome}
 use Rattle.roundtrip.proofs.Accepted.{words-low, words-used, words-map}
 use Rattle.roundtrip.proofs.Stores.{build-fine, build-words, long-in, made-fine, made-members, made-same, fine-same}
 use Rattle.roundtrip.proofs.Written.{Low, map-accepted, map-words}
@@ -92,8 +92,8 @@ module _ {N : ℕ} {s : List ℕ} (z : StoreOf N s) where
       pub round-trip-members : members (readOf (writeOf s b .lent) t .lent) ≡ members s
       round-trip-members = ap members lent-is ∙ made-members z
 
-      pub round-trip-fine : Fine N (readOf (writeOf s b .lent) t .lent)
-      round-trip-fine = subst (Fine N) (sym lent-is) (made-fine z)
+      pub round-trip-fine : SoundStore N (readOf (writeOf s b .lent) t .lent)
+      round-trip-fine = subst (SoundStore N) (sym lent-is) (made-fine z)
 
       -- a sound store comes back word for word
       pub round-trip-same : Words64 s → Sound N s → readOf (writeOf s b .lent) t .lent ≡ s
@@ -111,7 +111,7 @@ module _ (m : List ℕ) (N : ℕ) (e : judgeOf m N ≡ 0) where
       (subst (λ (n : ℕ). 1 ≤ n) (right .same) (c .0), subst (λ (n : ℕ). n ≤ maxCap) (right .same) (c .1))
 
   -- what is read is a sound store
-  pub read-fine : Fine N (build N (wordsOf N m))
+  pub read-fine : SoundStore N (build N (wordsOf N m))
   read-fine = build-fine N (wordsOf N m) (capacity .0) (capacity .1) (length-words N m) (words-low right)
 
   words-back : wordsIn N (build N (wordsOf N m)) ≡ wordsOf N m
@@ -165,9 +165,9 @@ same-bytes m m′ bytes bytes′ {N} {t} {t′} z z′ e e′ h =
 
 -- ---- soundness is kept, whatever the bytes are
 
-pub read-keeps : (m : List ℕ) {N : ℕ} {t : List ℕ} → Fine N t → Fine N (readOf m t .lent)
+pub read-keeps : (m : List ℕ) {N : ℕ} {t : List ℕ} → SoundStore N t → SoundStore N (readOf m t .lent)
 read-keeps m {N} {t} f = go (ℕ-discrete (judgeOf m N) 0)
   where
-    go : Dec (judgeOf m N ≡ 0) → Fine N (readOf m t .lent)
-    go (yes e) = subst (Fine N) (sym (ap (λ (o : Outcome (List ℕ)). o .lent) (read-does m (f .is) e))) (read-fine m N e)
-    go (no n) = subst (Fine N) (sym (ap (λ (o : Outcome (List ℕ)). o .lent) (read-refuses m (f .is) n))) f
+    go : Dec (judgeOf m N ≡ 0) → SoundStore N (readOf m t .lent)
+    go (yes e) = subst (SoundStore N) (sym (ap (λ (o : Outcome (List ℕ)). o .lent) (read-does m (f .is) e))) (read-fine m N e)
+    go (no n) = subst (SoundStore N) (sym (ap (λ (o : Outcome (List ℕ)). o .lent) (read-refuses m (f .is) n))) f

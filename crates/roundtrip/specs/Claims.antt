@@ -7,7 +7,7 @@ use Rattle.store.specs.Word.{Sound, Words64}
 use Rattle.chunkmap.specs.Map.{wordsIn, mapOf}
 
 -- x is a sound store of capacity N
-pub record Fine (N : ℕ) (x : List ℕ) : Type 0 where
+pub record SoundStore (N : ℕ) (x : List ℕ) : Type 0 where
   pub is : StoreOf N x
   pub words : Words64 x
   pub sound : Sound N x
@@ -15,6 +15,6 @@ pub record Fine (N : ℕ) (x : List ℕ) : Type 0 where
 -- m is the map of some set of capacity N, with any bytes behind it
 pub record MapOfSome (m : List ℕ) (N : ℕ) : Type 0 where
   pub set : List ℕ
-  pub fine : Fine N set
+  pub fine : SoundStore N set
   pub later : List ℕ
   pub bytes : m ≡ mapOf N (wordsIn N set) ++ later

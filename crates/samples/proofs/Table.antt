@@ -14,11 +14,12 @@ use Rattle.store.specs.Word.{word, on, anc, put}
 use Rattle.average.specs.Average.{splits, averageOf}
 use Rattle.layers.specs.Calls.{wordOf}
 use Rattle.bitset.specs.Calls.{moveOf, allBelow, addAll, addListOf}
-use Rattle.bitset.specs.Edit.{edit, edits, addLayers, left, climb, removeLayers}
+use Rattle.bitset.specs.Edit.{edit, edits, addLayers, wordLeft, climb, removeLayers}
 use Rattle.whole.specs.Calls.{openOf, isEmptyOf}
 use Rattle.free.specs.Calls.{freeFrom, firstFreeOf}
 use Rattle.iter.specs.Calls.{prefixesFit, startIn, nextIn}
-use Rattle.iter.specs.Walk.{lowFrom, prefixAt, placeAt, less, handed, taken, next, runBy}
+use Rattle.iter.specs.Walk.{lowFrom, prefixAt, placeAt, less, handed, taken, next}
+use Rattle.demand.specs.Calls.{runBy}
 use Rattle.codes.specs.Tree.{existing, xorIn, notIn, value, treeWord}
 use Rattle.codes.specs.Codes.{kindOf, trees, treeOf, takesIn, left as leftOf, isFormula}
 use Rattle.codes.specs.Check.{besideOf, sooner, storesOf, checkOf}
@@ -64,7 +65,7 @@ unfolding p2 wordOf bit change top isCap isStore room span layerEnd word on anc 
 holds2 = (refl, (refl, tt))
 
 holds3 : Holds (p3 removed)
-unfolding p3 wordOf left climb removeLayers bit change top isCap isStore room span layerEnd word on anc put moveOf allBelow addAll addListOf edit edits addLayers openOf
+unfolding p3 wordOf wordLeft climb removeLayers bit change top isCap isStore room span layerEnd word on anc put moveOf allBelow addAll addListOf edit edits addLayers openOf
 holds3 = (refl, tt)
 
 holds456 : Holds p456

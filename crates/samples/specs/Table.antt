@@ -14,7 +14,9 @@ use Rattle.free.specs.Calls.{firstFreeOf}
 use Rattle.iter.specs.declared.Cursor.{Cursor}
 use Rattle.iter.specs.declared.Step.{Step}
 use Rattle.iter.specs.Calls.{stepPaper, startIn, nextIn}
-use Rattle.iter.specs.Walk.{Run, startAt}
+use Rattle.iter.specs.Walk.{startAt}
+use Rattle.demand.specs.Calls.{Ask, Run}
+use Rattle.demand.specs.Calls.Ask.{one as nextBy}
 use Rattle.demand.specs.Walks.{walkOn}
 use Rattle.codes.specs.Tree.{four}
 use Rattle.formula_iter.specs.Calls.{startIn as startOver}
@@ -44,8 +46,8 @@ abbrev told : ℕ → Run → List ℕ
 told r w = cond (w .over) 1 0 ∷ (r + w .total) ∷ w .members
 
 -- a walk of a store, and of the intersection of two, with nine reads a call
-abbrev nines : List ℕ
-nines = 9 ∷ 9 ∷ 9 ∷ []
+abbrev nines : List Ask
+nines = nextBy 9 ∷ nextBy 9 ∷ nextBy 9 ∷ []
 
 abbrev pub walked : List ℕ → List ℕ
 walked s = told (startIn s zeros .reads) (walkOn s zeros nines)

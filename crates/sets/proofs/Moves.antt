@@ -11,7 +11,7 @@ use Rattle.util.proofs.Bits.{set-some}
 use Rattle.store.specs.Layout.{top, storeLen}
 use Rattle.store.specs.Word.{word, on, anc, Sound}
 use Rattle.store.proofs.Members.{over-on}
-use Rattle.bitset.specs.Edit.{edits, addLayers, left, climb, removeLayers}
+use Rattle.bitset.specs.Edit.{edits, addLayers, wordLeft, climb, removeLayers}
 use Rattle.bitset.proofs.Edits.{word-edits-same, word-edits-other}
 use Rattle.bitset.proofs.Moves.{add-none, add-all, add-one-layer, remove-none, remove-some, climb-stop, climb-on, climb-top}
 use Rattle.sets.proofs.Bits.{on-edits-same, on-edits-other, sound-edits}
@@ -21,23 +21,23 @@ module _ (N : ℕ) (s : List ℕ) (i : ℕ) where
   pub record Climbed (k d m : ℕ) : Type 0 where
     pub above : k < m
     pub most : m ≤ suc (k + d)
-    pub empty : (j : ℕ) → k ≤ j → suc j < m → left N s i j ≡ 0
-    pub kept : (j : ℕ) → suc j ≡ m → j < k + d → left N s i j ≢ 0
+    pub empty : (j : ℕ) → k ≤ j → suc j < m → wordLeft N s i j ≡ 0
+    pub kept : (j : ℕ) → suc j ≡ m → j < k + d → wordLeft N s i j ≢ 0
 
   pub climbed : (k d : ℕ) → Climbed k d (climb N s i k d)
   climbed k zero =
       subst (Climbed k 0) (sym (climb-top N s i k))
       (record { above = omega arith; most = omega arith; empty = λ j a b. absurd (omega arith); kept = λ j e l. absurd (omega arith) })
-  climbed k (suc d) = go (climbed (suc k) d) (ℕ-discrete (left N s i k) 0)
+  climbed k (suc d) = go (climbed (suc k) d) (ℕ-discrete (wordLeft N s i k) 0)
     where
-      go : Climbed (suc k) d (climb N s i (suc k) d) → Dec (left N s i k ≡ 0) → Climbed k (suc d) (climb N s i k (suc d))
+      go : Climbed (suc k) d (climb N s i (suc k) d) → Dec (wordLeft N s i k ≡ 0) → Climbed k (suc d) (climb N s i k (suc d))
       go r (no n) =
           subst (Climbed k (suc d)) (sym (climb-stop N s i k (suc d) n))
           (record {
             above = omega arith;
             most = omega arith;
             empty = λ j a b. absurd (omega arith);
-            kept = λ j e l. (let q : j ≡ k = omega arith in subst (λ (x : ℕ). left N s i x ≢ 0) (sym q) n);
+            kept = λ j e l. (let q : j ≡ k = omega arith in subst (λ (x : ℕ). wordLeft N s i x ≢ 0) (sym q) n);
           })
       go r (yes e) =
           subst (Climbed k (suc d)) (sym (climb-on N s i k d e))
@@ -48,8 +48,8 @@ module _ (N : ℕ) (s : List ℕ) (i : ℕ) where
             kept = λ j q l. r .kept j q (omega arith);
           })
         where
-          first : (j : ℕ) → k ≤ j → suc j < climb N s i (suc k) d → Dec (j ≡ k) → left N s i j ≡ 0
-          first j a b (yes q) = ap (left N s i) q ∙ e
+          first : (j : ℕ) → k ≤ j → suc j < climb N s i (suc k) d → Dec (j ≡ k) → wordLeft N s i j ≡ 0
+          first j a b (yes q) = ap (wordLeft N s i) q ∙ e
           first j a b (no n) = r .empty j (omega arith) b
 
 -- ---- soundness is kept
@@ -84,13 +84,13 @@ module _ (N : ℕ) (s : List ℕ) (i : ℕ) (long : length s ≡ storeLen N) (hi
           tip k e l = let q : k ≡ 0 = omega arith in subst (λ (x : ℕ). word N s x (anc i x / 64) ≢ 0) (sym q) w
 
   sound-clear : (m : ℕ) → on N s 0 i ≡ 1 → Climbed N s i 0 (top N) m → Sound N (edits false N s i m)
-  unfolding anc left
+  unfolding anc wordLeft
   sound-clear m held c = sound-edits false N s i long hi m low z (λ k h. way k h (decLt (suc k) m) (decLt k m))
     where
       low : m ≤ suc (top N)
       low = omega (arith, c .most)
 
-      left-is : (k : ℕ) → k < m → word N (edits false N s i m) k (anc i k / 64) ≡ left N s i k
+      left-is : (k : ℕ) → k < m → word N (edits false N s i m) k (anc i k / 64) ≡ wordLeft N s i k
       left-is k l = word-edits-same false N s i long hi m k low l
 
       way : (k : ℕ) → k < top N → Dec (suc k < m) → Dec (k < m)

@@ -3,22 +3,18 @@ use mathlib.Core.Bool.{true, _&&_}
 use mathlib.Core.List.{List}
 use mathlib.Core.Logic.{_↔_}
 use mathlib.Core.Path.{_≡_, sym, ap, ap₂, _∙_}
-use Prim.Native.Nat.{ℕ, _-_, _/_, _%_, _^_, _≤_, _<_}
+use Prim.Native.Nat.{ℕ, _-_, _^_, _≤_, _<_}
 use native.Mathlib.Decide.{decLt, ℕ-discrete}
 use native.Mathlib.Omega.{arith}
 use borrow.Author.Tests.{lt-ltb, ltb-true}
 use lib.ListN.{length, getD, List·getD-eq-default}
 use lib.Pow.{pow-pos}
-use Rattle.util.specs.Outcome.{Outcome}
-use Rattle.util.specs.Word.{bit, same, places}
-use Rattle.util.proofs.Places.{places-same}
+use Rattle.util.specs.Word.{same}
 use Rattle.util.proofs.Same.{both, same-eq, same-refl}
-use Rattle.store.specs.Answer.{does}
 use Rattle.store.specs.Build.{build, layer0, room0, Kept}
 use Rattle.store.specs.Layout.{room, layerLen, cap, StoreOf}
-use Rattle.store.specs.Word.{on, members, Sound, Words64}
-use Rattle.store.proofs.Build.{cap-build, layer0-build, length-build, on-build, sound-build, words-build, length-layer0, words-layer0, word-layer0, sound-built}
-use Rattle.store.proofs.Geometry.{is-store}
+use Rattle.store.specs.Word.{Sound, Words64}
+use Rattle.store.proofs.Build.{length-layer0, words-layer0, sound-built}
 use Rattle.soundness.specs.Calls.{keptOf, soundOf}
 
 -- ---- the words before the last have no place past N

@@ -6,7 +6,7 @@ use Prim.Native.Nat.{ℕ}
 use Rattle.util.specs.Outcome.{Settled, settled}
 use Rattle.store.specs.Answer.{didPaper}
 use Rattle.store.specs.Build.{build, layer0}
-use Rattle.store.specs.Layout.{cap, isStore, StoreOf}
+use Rattle.store.specs.Layout.{isStore, StoreOf}
 use Rattle.store.specs.declared.Did.the-variants.{Done, Refused}
 use Rattle.store.proofs.Geometry.{is-store}
 use Rattle.summary.specs.Calls.{rebuildOf}

@@ -1,14 +1,14 @@
 -- The loops over a layer's words and over the layers: each turn is one unfolding of the definition.
-use mathlib.Core.Bool.{Bool, true, false, cond, not, _&&_, true≢false}
+use mathlib.Core.Bool.{Bool, true, false, _&&_, true≢false}
 use mathlib.Core.List.{List, [], _∷_, _++_, append-assoc, append-nil}
 use mathlib.Core.Path.{_≡_, refl, sym, ap, ap₂, _∙_}
-use Prim.Native.Nat.{ℕ, suc, _+_, _-_, _*_, _^_, _≤_, _<_, min}
+use Prim.Native.Nat.{ℕ, suc, _+_, _-_, _*_, _≤_, _<_}
 use native.Mathlib.Nat.{zero-add, sub-zero}
 use native.Mathlib.Omega.{arith}
 use borrow.Rule.Slice.PartMut.{midOf, putMid, post-is, same-len-mid, mid-len}
 use lib.Dec.{eqb}
 use lib.ListN.{length, getD, set, take, drop, length-drop, length-append, length-set, take-append-drop, drop-of-length-le}
-use lib.Seq.{sets, sets-eq, take-all, take-at, drop-at, take-take, take-add, take-append-le, take-suc, drop-drop, drop-cons, drop-set-lt, length-take-le, getD-take}
+use lib.Seq.{sets, sets-eq, take-at, drop-at, take-take, take-add, take-append-le, take-suc, drop-drop, drop-cons, drop-set-lt, length-take-le, getD-take}
 use Rattle.util.specs.Word.{same}
 use Rattle.util.proofs.Same.{same-eq, same-refl}
 use Rattle.store.specs.Build.{flags, chunks, summary, layerOf, stacked, build, layer0}

@@ -16,6 +16,7 @@ use Rattle.store.proofs.Members.{members-are}
 use Rattle.members.specs.Calls.{isMember}
 use Rattle.members.proofs.Tested.{is-member}
 use Rattle.iter.specs.declared.Cursor.{Cursor}
+use Rattle.demand.specs.Calls.{Ask}
 use Rattle.demand.specs.Walks.{walkOn}
 use Rattle.demand.proofs.Store.{walk-defined, ids-members}
 use Rattle.batches.specs.Steps.{walked}
@@ -44,12 +45,12 @@ module _ (s t : List ℕ) (is : isStore s ≡ true) (it : isStore t ≡ true) (e
     λ h. said-is (store-is is) (store-is it) true e (sym h),
   )
 
-  -- it says yes exactly if every id that a walk of the other store hands out, however it is cut by budgets, is a member of this one
-  pub contains-walked : Words64 t → (c : Cursor) (bs : List ℕ) → walkOn t c bs .over ≡ true
-      → Settled askedPaper (containsSetOf s t) (Is true) tt ↔ ((i : ℕ) → List·Memᴰ i (walkOn t c bs .members) → Member s i)
-  contains-walked small c bs o =
+  -- it says yes exactly if every id that a walk of the other store hands out, however it is cut into calls, is a member of this one
+  pub contains-walked : Words64 t → (c : Cursor) (q : List Ask) → walkOn t c q .over ≡ true
+      → Settled askedPaper (containsSetOf s t) (Is true) tt ↔ ((i : ℕ) → List·Memᴰ i (walkOn t c q .members) → Member s i)
+  contains-walked small c q o =
       let h = held-each s (walked t) in
-      subst (λ (l : List ℕ). Settled askedPaper (containsSetOf s t) (Is true) tt ↔ ((i : ℕ) → List·Memᴰ i l → Member s i)) (sym (walk-defined t it small c bs o .0))
+      subst (λ (l : List ℕ). Settled askedPaper (containsSetOf s t) (Is true) tt ↔ ((i : ℕ) → List·Memᴰ i l → Member s i)) (sym (walk-defined t it small c q o .0))
       (λ y. h .0 (yes-held .0 y), λ m. yes-held .1 (h .1 m))
 
   -- where the other store is sound: exactly if every member of it is a member of this one

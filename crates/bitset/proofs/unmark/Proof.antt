@@ -1,5 +1,5 @@
 -- `bitset::unmark` meets its contract: it climbs while words become 0. Assumes nothing.
-use mathlib.Core.Path.{_≡_, refl}
+use mathlib.Core.Path.{refl}
 use native.Mathlib.Omega.{arith}
 use borrow.Author.Needs.{needs}
 use Rattle.store.specs.Layout.{top}

@@ -1,10 +1,10 @@
 -- `fill::fill_in` meets its contract. The invariant: what stands in `out` and what a fill of its other places hands out are what the
 -- whole fill hands out. Assumes nothing.
 use mathlib.Core.List.{[], _∷_}
-use Prim.Native.Nat.{_+_, _-_}
+use Prim.Native.Nat.{_-_}
 use native.Mathlib.Omega.{arith}
 use borrow.Author.Needs.{needs}
-use lib.ListN.{length, length-set}
+use lib.ListN.{length}
 use Rattle.iter.specs.Steps.{parts, Sank}
 use Rattle.fill.specs.Steps.{Filling}
 use Rattle.iter.proofs.Cursors.{id-small}

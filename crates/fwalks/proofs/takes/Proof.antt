@@ -3,7 +3,6 @@ use mathlib.Core.Path.{sym, ap}
 use native.Mathlib.Omega.{arith}
 use Rattle.fwalks.specs.Calls.{takesOf}
 use Rattle.fwalks.proofs.Arms.{takes-none}
-use borrow.Author.Needs.{needs}
 use Rattle.fwalks.proofs.takes.Statement.{statement}
 use Rattle.fwalks.proofs.takes.Tie as tie
 

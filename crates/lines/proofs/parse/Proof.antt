@@ -1,6 +1,5 @@
 -- `lines::parse` meets its contract: what each line means. Assumes nothing.
 use mathlib.Core.Path.{sym, ap₂, _∙_}
-use native.Mathlib.Omega.{arith}
 use Rattle.lines.specs.Line.{withId}
 use Rattle.lines.proofs.Parsing.{one-w, one-other, no-blank, blank}
 use borrow.Author.Needs.{needs}

@@ -2,7 +2,7 @@
 use mathlib.Core.Path.{_≡_, sym, ap, _∙_}
 use native.Mathlib.Omega.{arith}
 use Rattle.lines.specs.Line.{withId}
-use Rattle.lines.specs.declared.Id.the-variants.{At, Bad}
+use Rattle.lines.specs.declared.Id.the-variants.{At}
 use Rattle.lines.proofs.Parsing.{with-bad, with-a, with-r, with-c, with-other}
 use borrow.Author.Needs.{needs}
 use Rattle.lines.proofs.with_id.Statement.{statement}

@@ -5,7 +5,7 @@ use native.Mathlib.Omega.{arith}
 use borrow.Author.Needs.{needs}
 use borrow.Author.Tests.{not-true, not-false}
 use Rattle.store.specs.Word.{Words64}
-use Rattle.batches.proofs.Batches.{left, Turn, turn, batch-length, less-left}
+use Rattle.batches.proofs.Batches.{toGo, Turn, turn, batch-length, less-to-go}
 use Rattle.listed.proofs.Naming.{Going, going-start, all-put, going-on}
 use Rattle.listed.proofs.put_walked.Statement.{statement}
 use Rattle.listed.proofs.put_walked.Tie as tie
@@ -14,7 +14,7 @@ abbrev Inv-loop : tie.InvT-loop
 Inv-loop buf₀ at store ids₀ c₀ a₀ buf ids c a = Going store buf₀ at ids c buf a
 
 abbrev μ-loop : tie.MeasureT-loop
-μ-loop buf₀ at store ids₀ c₀ a₀ buf ids c a = left store c
+μ-loop buf₀ at store ids₀ c₀ a₀ buf ids c a = toGo store c
 
 started-requires : tie.Need-started-requires Inv-loop μ-loop
 started-requires c κs = search needs
@@ -70,7 +70,7 @@ loop-less c =
     let e = c .before in
     let o = e .before in
     let f = o .before .before .before .before .before .before .before in
-    less-left (batch-here f) (omega arith) (sym (o .goes-on .ensures) ∙ not-false _ (e .if1 .left))
+    less-to-go (batch-here f) (omega arith) (sym (o .goes-on .ensures) ∙ not-false _ (e .if1 .left))
 
 loop-again : tie.Need-loop-again Inv-loop μ-loop
 loop-again c =

@@ -10,7 +10,7 @@ use lib.ListN.{length}
 use Rattle.util.proofs.Places.{Lowest, lowest}
 use Rattle.groups.proofs.Loops.{less-left}
 use Rattle.merging.specs.Tree.{Ask, Level}
-use Rattle.merging.proofs.Steps.{top-is, level-start, level-end, small-ask, store-here, ask-child, inside, ordered, near, inside-both, level-turn, ask-zero, level-zero}
+use Rattle.merging.proofs.Steps.{top-is, level-start, level-end, small-ask, ask-child, inside, ordered, near, inside-both, level-turn, ask-zero, level-zero}
 use Rattle.merging.proofs.below.Reads as below
 use Rattle.merging.proofs.below.Kinds as below-kinds
 use Rattle.merging.proofs.+below+under.Lts-below as lts

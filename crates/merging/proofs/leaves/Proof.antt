@@ -1,5 +1,4 @@
 -- `merging::leaves` meets its contract: the group is lent as a part of both stores. Assumes nothing.
-use mathlib.Core.Path.{_≡_, refl, sym, ap, _∙_}
 use native.Mathlib.Omega.{arith}
 use Rattle.merging.proofs.Leaf.{Spot, low-high, level-leaves}
 use Rattle.merging.proofs.Steps.{small-ask, start-small, spot-here, same-long}

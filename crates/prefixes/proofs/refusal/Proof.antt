@@ -1,5 +1,5 @@
 -- `prefixes::refusal` meets its contract. Assumes nothing.
-use mathlib.Core.Path.{sym, ap, _∙_}
+use mathlib.Core.Path.{sym, _∙_}
 use borrow.Author.Tests.{eq-eqb, ne-eqb}
 use Rattle.prefixes.specs.Prefixes.{prefixesFit, refusalOf}
 use borrow.Author.Needs.{needs}

@@ -1,6 +1,5 @@
 -- `rows::put_said` meets its contract. Assumes nothing.
 use mathlib.Core.Path.{sym, ap, _∙_}
-use native.Mathlib.Omega.{arith}
 use lib.Seq.{length-take-le}
 use Rattle.text.specs.Out.{putAllOf}
 use Rattle.rows.proofs.Rows.{line-unknown, line-none, line-row}

@@ -4,7 +4,7 @@ use native.Mathlib.Omega.{arith}
 use borrow.Author.Needs.{needs}
 use borrow.Author.Tests.{not-true, not-false}
 use Rattle.store.specs.Word.{Words64}
-use Rattle.batches.proofs.Batches.{left, Turn, turn, batch-length, less-left}
+use Rattle.batches.proofs.Batches.{toGo, Turn, turn, batch-length, less-to-go}
 use Rattle.superset.proofs.Batches.{Going, going-start, one-lacks, all-there, going-on}
 use Rattle.superset.proofs.all_walked.Statement.{statement}
 use Rattle.superset.proofs.all_walked.Tie as tie
@@ -13,7 +13,7 @@ abbrev Inv-loop : tie.InvT-loop
 Inv-loop store other ids₀ c₀ ids c = Going store other ids c
 
 abbrev μ-loop : tie.MeasureT-loop
-μ-loop store other ids₀ c₀ ids c = left other c
+μ-loop store other ids₀ c₀ ids c = toGo other c
 
 started-requires : tie.Need-started-requires Inv-loop μ-loop
 started-requires c κs = search needs
@@ -73,7 +73,7 @@ loop-less c =
     let e = c .before in
     let o = e .before in
     let f = o .before .before .before .before .before in
-    less-left (batch-here f) (omega arith) (sym (o .goes-on .ensures) ∙ not-false _ (e .if2 .left))
+    less-to-go (batch-here f) (omega arith) (sym (o .goes-on .ensures) ∙ not-false _ (e .if2 .left))
 
 loop-again : tie.Need-loop-again Inv-loop μ-loop
 loop-again c =

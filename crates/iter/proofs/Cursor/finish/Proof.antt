@@ -1,7 +1,6 @@
 -- `iter::Cursor::finish` meets its contract. Assumes nothing.
 use mathlib.Core.Path.{sym, ap, _∙_, subst}
 use Prim.Native.Nat.{ℕ, _%_}
-use Rattle.iter.specs.declared.Step.{Step}
 use Rattle.iter.specs.Steps.{Finishes}
 use Rattle.iter.proofs.Turns.{finish-member, finish-end, finish-paused}
 use borrow.Author.Needs.{needs}

@@ -1,7 +1,5 @@
 -- `iter::Cursor::read` meets its contract. Assumes nothing.
-use mathlib.Core.Path.{_≡_, sym, ap, _∙_, subst}
-use Prim.Native.Nat.{ℕ, suc, _+_, _%_, _<_}
-use native.Mathlib.Omega.{arith}
+use Prim.Native.Nat.{ℕ}
 use lib.ListN.{getD}
 use Rattle.iter.proofs.Cursors.{lowers-by}
 use borrow.Author.Needs.{needs}
