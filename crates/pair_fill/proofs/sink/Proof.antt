@@ -1,12 +1,12 @@
 -- `pair_fill::sink` meets its contract: `Sinking` is the invariant. Assumes nothing.
 use mathlib.Core.List.{[], _∷_}
-use mathlib.Core.Path.{sym, _∙_}
 use Prim.Native.Nat.{_-_}
 use native.Mathlib.Omega.{arith}
 use Rattle.pair_fill.specs.Pair.{joinedParts}
 use Rattle.iter.proofs.Turns.{Sinking, sink-start, sink-again, sink-rests, sink-spent}
 use Rattle.pair_fill.proofs.sink.Statement.{statement}
 use Rattle.pair_fill.proofs.sink.Tie as tie
+use Rattle.pair_fill.proofs.down.Reads as down-reads
 
 abbrev Inv-loop : tie.InvT-loop
 Inv-loop code a2 a1 a0 b2 b1 b0 spent budget c₀ reads₀ c reads = Sinking (joinedParts code (a0 ∷ a1 ∷ a2 ∷ []) (b0 ∷ b1 ∷ b2 ∷ [])) budget spent c₀ c reads
@@ -17,29 +17,28 @@ abbrev μ-loop : tie.MeasureT-loop
 loop-holds : tie.Need-loop-holds Inv-loop μ-loop
 loop-holds c = sink-start _ _ _ _
 
-wants-requires : tie.Need-wants-requires Inv-loop μ-loop
-wants-requires c κs = tt
-
 down-requires : tie.Need-down-requires Inv-loop μ-loop
-down-requires c κs = sym (c .before .before .wants .ensures) ∙ c .before .if1 .taken
+down-requires c κs = tt
 
 add-reads : tie.Need-add-reads Inv-loop μ-loop
-add-reads c = omega (arith, c .before .if2 .left)
+add-reads c = omega (arith, c .before .before .before .before .loop-test .taken)
 
 loop-less : tie.Need-loop-less Inv-loop μ-loop
-loop-less c = omega (arith, c .before .if2 .left)
+loop-less c = omega (arith, c .before .before .before .before .loop-test .taken)
 
 loop-again : tie.Need-loop-again Inv-loop μ-loop
 loop-again c =
-    let e = c .before in
-    let w = e .before .before in
-    sink-again (w .before .loop .inv) (sym (w .wants .ensures) ∙ e .before .if1 .taken) (omega (arith, e .if2 .left)) (c .down .ensures)
+    let t = c .before in
+    let d = t .before .before in
+    let l = d .before in
+    let s = d .down .ensures in
+    sink-again (l .before .loop .inv) (s .wanted (t .if1 .left)) (l .loop-test .taken) (s .lowers (t .if1 .left))
 
 returns : tie.Need-returns Inv-loop μ-loop
-returns c = let w = c .before in sink-rests (w .before .loop .inv) (sym (w .wants .ensures) ∙ c .if1 .left)
+returns c = sink-spent (c .before .loop .inv) (c .loop-test .left)
 
 returns-2 : tie.Need-returns-2 Inv-loop μ-loop
-returns-2 c = sink-spent (c .before .before .before .loop .inv) (c .if2 .taken)
+returns-2 c = let d = c .before .before in sink-rests (d .before .before .loop .inv) (d .down .ensures .rests (c .if1 .taken))
 
 pub sink-spec : {M : Type 1} → statement M
 sink-spec =
@@ -48,7 +47,6 @@ sink-spec =
     Inv-loop
     μ-loop
     loop-holds
-    wants-requires
     down-requires
     add-reads
     loop-less
