@@ -62,7 +62,7 @@ fn down(
     sunk(c, 0)
 }
 
-// After so many reads, words are read until none is wanted or the budget is spent.
+// After so many reads, words are read until none is wanted or the budget is spent. A member at hand is met first, so that it costs one test.
 fn sink(
     from: Cursor,
     code: u8,
@@ -77,6 +77,13 @@ fn sink(
 ) -> Sunk
     ensures { λ r. ⌜ Sinks (joinedParts code (now (a0 .entry) ∷ now (a1 .entry) ∷ now (a2 .entry) ∷ []) (now (b0 .entry) ∷ now (b1 .entry) ∷ now (b2 .entry) ∷ [])) budget spent from r ⌝ }
 {
+    let masks = from.masks;
+    if masks[0] != 0 {
+        return Sunk {
+            cursor: from,
+            reads: spent,
+        };
+    }
     let mut c = from;
     let mut reads = spent;
     while reads < budget {

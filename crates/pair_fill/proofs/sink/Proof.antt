@@ -2,8 +2,9 @@
 use mathlib.Core.List.{[], _∷_}
 use Prim.Native.Nat.{_-_}
 use native.Mathlib.Omega.{arith}
+use borrow.Author.Needs.{needs}
 use Rattle.pair_fill.specs.Pair.{joinedParts}
-use Rattle.iter.proofs.Turns.{Sinking, sink-start, sink-again, sink-rests, sink-spent}
+use Rattle.iter.proofs.Turns.{Sinking, sink-start, sink-again, sink-rests, sink-none, sink-spent}
 use Rattle.pair_fill.proofs.sink.Statement.{statement}
 use Rattle.pair_fill.proofs.sink.Tie as tie
 use Rattle.pair_fill.proofs.down.Reads as down-reads
@@ -13,6 +14,12 @@ Inv-loop code a2 a1 a0 b2 b1 b0 spent budget c₀ reads₀ c reads = Sinking (jo
 
 abbrev μ-loop : tie.MeasureT-loop
 μ-loop code a2 a1 a0 b2 b1 b0 spent budget c₀ reads₀ c reads = budget - reads
+
+array-read-if1 : tie.Need-array-read-if1 Inv-loop μ-loop
+array-read-if1 c = search needs
+
+returns : tie.Need-returns Inv-loop μ-loop
+returns c = sink-none _ _ _ _ (c .if1 .taken)
 
 loop-holds : tie.Need-loop-holds Inv-loop μ-loop
 loop-holds c = sink-start _ _ _ _
@@ -32,13 +39,13 @@ loop-again c =
     let d = t .before .before in
     let l = d .before in
     let s = d .down .ensures in
-    sink-again (l .before .loop .inv) (s .wanted (t .if1 .left)) (l .loop-test .taken) (s .lowers (t .if1 .left))
-
-returns : tie.Need-returns Inv-loop μ-loop
-returns c = sink-spent (c .before .loop .inv) (c .loop-test .left)
+    sink-again (l .before .loop .inv) (s .wanted (t .if2 .left)) (l .loop-test .taken) (s .lowers (t .if2 .left))
 
 returns-2 : tie.Need-returns-2 Inv-loop μ-loop
-returns-2 c = let d = c .before .before in sink-rests (d .before .before .loop .inv) (d .down .ensures .rests (c .if1 .taken))
+returns-2 c = sink-spent (c .before .loop .inv) (c .loop-test .left)
+
+returns-3 : tie.Need-returns-3 Inv-loop μ-loop
+returns-3 c = let d = c .before .before in sink-rests (d .before .before .loop .inv) (d .down .ensures .rests (c .if2 .taken))
 
 pub sink-spec : {M : Type 1} → statement M
 sink-spec =
@@ -46,10 +53,12 @@ sink-spec =
     (tie.spec
     Inv-loop
     μ-loop
+    array-read-if1
+    returns
     loop-holds
     down-requires
     add-reads
     loop-less
     loop-again
-    returns
-    returns-2)
+    returns-2
+    returns-3)
