@@ -53,6 +53,10 @@ module _ (a b c d : List ℕ) where
   unfolding storesOf
   stores-2 h = sym (rw h)
 
+  pub stores-alike : {n : ℕ} → StoreOf n a → (0 ≡ besideOf n b) × (0 ≡ besideOf n c) × (0 ≡ besideOf n d) → 0 ≡ storesOf (four a b c d)
+  unfolding storesOf sooner
+  stores-alike s e = sym (rw (is-store s, s .names, ← e .0, ← e .1, ← e .2))
+
   pub stores-first : {n x y z u r : ℕ} → StoreOf n a → x ≡ besideOf n b → y ≡ besideOf n c → z ≡ besideOf n d → u ≡ sooner x y → r ≡ sooner u z
       → r ≡ storesOf (four a b c d)
   unfolding storesOf

@@ -1,18 +1,19 @@
 -- The kind of a code, by the tests that the code makes; what it takes; one turn of the check.
-use mathlib.Core.Bool.{true, false, cond, _&&_, _||_}
+use mathlib.Core.Bool.{Bool, true, false, cond, _&&_, _||_}
 use mathlib.Core.List.{List}
-use mathlib.Core.Logic.{_≢_, _⊎_, ⊎-elim}
+use mathlib.Core.Logic.{_≢_, _⊎_, inl, inr, ⊎-elim}
 use mathlib.Core.Path.{_≡_, refl, sym, ap, _∙_}
 use Prim.Native.Nat.{ℕ, suc, _+_, _-_, _≤_, _<_}
 use native.Mathlib.Decide.{ℕ-discrete}
 use native.Mathlib.Numerals.{add-one}
 use native.Mathlib.Omega.{arith}
-use borrow.Author.Tests.{lt-ltb, le-ltb, le-leb, lt-leb, ne-eqb}
+use borrow.Author.Tests.{lt-ltb, le-ltb, le-leb, lt-leb, ne-eqb, ltb-true}
 use lib.Dec.{leb, ltb}
 use lib.ListN.{length, getD, drop, drop-of-length-le}
 use lib.Seq.{drop-cons}
+use Rattle.util.proofs.Same.{both}
 use Rattle.codes.specs.Codes.{kindOf, cutsIn, takes, takesIn, left}
-use Rattle.codes.specs.Steps.{Going, Looking}
+use Rattle.codes.specs.Steps.{waiting, Going, Looking}
 use Rattle.codes.specs.Codes.Kind.{isStore, isUnknown}
 
 -- ---- the kinds
@@ -55,37 +56,71 @@ module _ (ls : List ℕ) (c : ℕ) where
       go (no a) (yes e) = sym (rw e)
       go (no a) (no b) = let e : c ≡ 18 = omega arith in sym (rw e)
 
-  pub takes-one : c ≡ 19 → 1 ≡ takesIn ls c
+  pub takes-last : 19 ≤ c → c < 21 → 20 - c ≡ takesIn ls c
   unfolding takesIn kindOf
-  takes-one e = sym (rw e)
+  takes-last h l = go (ℕ-discrete c 19)
+    where
+      go : Dec (c ≡ 19) → 20 - c ≡ takes (kindOf c) (ltb 0 (getD ls c 0))
+      go (yes e) = rw e
+      go (no n) = let e : c ≡ 20 = omega arith in rw e
 
-  pub takes-none : c ≡ 20 → 0 ≡ takesIn ls c
-  unfolding takesIn kindOf
-  takes-none e = sym (rw e)
-
-  pub takes-unknown : 4 ≤ c → (c < 16) ⊎ (19 ≤ c) → c ≢ 19 → c ≢ 20 → 9 ≡ takesIn ls c
+  pub takes-unknown : 4 ≤ c → (c < 16) ⊎ (21 ≤ c) → 9 ≡ takesIn ls c
   unfolding takesIn
-  takes-unknown h o n19 n20 = sym (rw (kind-unknown c h o n19 n20))
+  takes-unknown h o =
+      let out : (n : ℕ) → 16 ≤ n → n < 21 → c ≢ n = λ n a b e. ⊎-elim (λ (l : c < 16). omega arith) (λ (l : 21 ≤ c). omega arith) o in
+      sym (rw (kind-unknown c h (⊎-elim inl (λ (l : 21 ≤ c). inr (omega arith)) o) (out 19 (omega arith) (omega arith)) (out 20 (omega arith) (omega arith))))
 
 -- ---- one code of the check, where d wait
+
+module _ (t d : ℕ) where
+  pub too-few : d < t → 0 ≡ waiting t d
+  unfolding waiting
+  too-few h = sym (rw (lt-leb t d h))
+
+  pub too-many : t ≤ d → 8 ≤ d - t → 0 ≡ waiting t d
+  unfolding waiting
+  too-many l h = sym (rw (le-leb t d l, le-ltb (d - t) 8 h))
+
+  pub one-more : t ≤ d → d - t < 8 → d - t + 1 ≡ waiting t d
+  unfolding waiting
+  one-more l h = add-one (d - t) ∙ sym (rw (le-leb t d l, lt-ltb (d - t) 8 h))
+
+-- a code that may not stand there takes more than ever wait
+pub none-waits : {d t : ℕ} → d ≤ 8 → 9 ≡ t → 0 ≡ waiting t d
+none-waits {d} {t} few e = too-few t d (omega (arith, e))
+
+pub as-taken : (d : ℕ) {t x r : ℕ} → r ≡ waiting t d → t ≡ x → r ≡ waiting x d
+as-taken d e f = e ∙ ap (λ (y : ℕ). waiting y d) f
 
 pub going-start : (ls cs : List ℕ) → Going ls cs 0 0
 going-start ls cs = record { few = omega arith; same = refl }
 
-module _ {ls cs : List ℕ} {d j t : ℕ} (g : Going ls cs d j) (more : j < length cs) (t-is : t ≡ takesIn ls (getD cs j 0)) where
+module _ {ls cs : List ℕ} {d j r : ℕ} (g : Going ls cs d j) (more : j < length cs) (r-is : r ≡ waiting (takesIn ls (getD cs j 0)) d) where
+  abbrev t : ℕ
+  t = takesIn ls (getD cs j 0)
+
   -- the definition at this code
   here : cond (leb t d && ltb (d - t) 8) (left ls (drop (suc j) cs) (suc (d - t))) 0 ≡ left ls cs 0
   unfolding left
-  here = rw t-is (ap (λ (l : List ℕ). left ls l d) (sym (drop-cons cs j 0 more)) ∙ g .same)
+  here = ap (λ (l : List ℕ). left ls l d) (sym (drop-cons cs j 0 more)) ∙ g .same
 
-  pub too-few : d < t → 0 ≡ left ls cs 0
-  too-few h = sym (rw (lt-leb t d h)) ∙ here
+  by-test : (x : Bool) → (leb t d && ltb (d - t) 8) ≡ x → r ≡ cond x (suc (d - t)) 0
+  unfolding waiting
+  by-test x e = r-is ∙ ap (λ (y : Bool). cond y (suc (d - t)) 0) e
 
-  pub too-many : t ≤ d → 8 ≤ d - t → 0 ≡ left ls cs 0
-  too-many l h = sym (rw (le-leb t d l, le-ltb (d - t) 8 h)) ∙ here
+  pub stops : r ≡ 0 → 0 ≡ left ls cs 0
+  stops h = go (leb t d && ltb (d - t) 8) refl
+    where
+      go : (x : Bool) → (leb t d && ltb (d - t) 8) ≡ x → 0 ≡ left ls cs 0
+      go true e = absurd (omega (arith, h, by-test true e))
+      go false e = sym (rw e) ∙ here
 
-  pub goes-on : t ≤ d → d - t < 8 → Going ls cs (d - t + 1) (j + 1)
-  goes-on l h = record { few = omega arith; same = rw (add-one j, add-one (d - t)) (sym (rw (le-leb t d l, lt-ltb (d - t) 8 h)) ∙ here) }
+  pub goes-on : r ≢ 0 → Going ls cs r (j + 1)
+  goes-on h = go (leb t d && ltb (d - t) 8) refl
+    where
+      go : (x : Bool) → (leb t d && ltb (d - t) 8) ≡ x → Going ls cs r (j + 1)
+      go true e = record { few = omega (arith, by-test true e, ltb-true (d - t) 8 (both (leb t d) (ltb (d - t) 8) e .1)); same = rw (add-one j, by-test true e) (sym (rw e) ∙ here) }
+      go false e = absurd (h (by-test false e))
 
 pub all-done : {ls cs : List ℕ} {d j : ℕ} → Going ls cs d j → length cs ≤ j → d ≡ left ls cs 0
 unfolding left

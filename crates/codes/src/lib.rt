@@ -1,4 +1,5 @@
 // The codes of a formula over at most four stores: which lists of codes are one, and what is refused.
+ghost use mathlib.Core.Bool.{true};
 ghost use mathlib.Core.Logic.{_≢_};
 ghost use mathlib.Core.Path.{_≡_};
 ghost use Prim.Native.Nat.{_≤_};
@@ -6,15 +7,17 @@ ghost use lib.ListN.{length};
 ghost use Rattle.store.specs.Layout.{maxCap, storeLen};
 ghost use Rattle.codes.specs.Tree.{joined, four};
 ghost use Rattle.codes.specs.Codes.{cutsIn, takesIn, left, isFormula};
+ghost use Rattle.codes.specs.Steps.{waiting};
 ghost use Rattle.codes.specs.Check.{besideOf, sooner, storesOf, checkOf};
 
-// What a code makes of two words of layer k: 16 and, 17 or, 18 xor, and any other as 18.
+// What a code makes of two words of layer k: 16 and, 17 or, 18 xor, and any other as 18. In this order of the arms the compiled code asks for
+// 16 first.
 pub fn joined(code: u8, k: usize, x: u64, y: u64) -> u64
     ensures { λ r. ⌜ r ≡ joined code k x y ⌝ }
 {
     match code {
-        16 => x & y,
         17 => x | y,
+        16 => x & y,
         _ => {
             if k == 0 {
                 return x ^ y;
@@ -63,20 +66,42 @@ fn other(n: usize, s: &[u64]) -> u32
     if m == n { 0 } else { 5 }
 }
 
-// What a slice beside a store of capacity n and of so many words is refused for. One as long that names n as well needs no store test.
-fn beside(n: usize, len: usize, s: &[u64]) -> u32
-    requires { ⌜ (1 ≤ n) × (n ≤ maxCap) × (len ≡ storeLen n) ⌝ }
+// What a slice is refused for beside a store of capacity n.
+fn beside(n: usize, s: &[u64]) -> u32
     ensures { λ r. ⌜ r ≡ besideOf n (now (s .entry)) ⌝ }
 {
     if s.len() == 0 {
         return 0;
     }
-    if s.len() == len {
-        if s[0] == n as u64 {
-            return 0;
-        }
-    }
     other(n, s)
+}
+
+// Whether a slice is empty, or names n as well and is as long as a store of capacity n, so that it needs no store test.
+fn like(n: usize, len: usize, s: &[u64]) -> bool
+    requires { ⌜ (1 ≤ n) × (n ≤ maxCap) × (len ≡ storeLen n) ⌝ }
+    ensures { λ r. ⌜ (r ≡ true → 0 ≡ besideOf n (now (s .entry))) ⌝ }
+{
+    if s.len() == 0 {
+        return true;
+    }
+    if s.len() != len {
+        return false;
+    }
+    s[0] == n as u64
+}
+
+// The same of three slices.
+fn alike(n: usize, len: usize, s1: &[u64], s2: &[u64], s3: &[u64]) -> bool
+    requires { ⌜ (1 ≤ n) × (n ≤ maxCap) × (len ≡ storeLen n) ⌝ }
+    ensures { λ r. ⌜ (r ≡ true → (0 ≡ besideOf n (now (s1 .entry))) × (0 ≡ besideOf n (now (s2 .entry))) × (0 ≡ besideOf n (now (s3 .entry)))) ⌝ }
+{
+    if !like(n, len, s1) {
+        return false;
+    }
+    if !like(n, len, s2) {
+        return false;
+    }
+    like(n, len, s3)
 }
 
 // What the four slices are refused for: 0, 2 or 5.
@@ -87,29 +112,43 @@ fn stores(s0: &[u64], s1: &[u64], s2: &[u64], s3: &[u64]) -> u32
     if n == 0 {
         return 2;
     }
-    let len = s0.len();
-    sooner(
-        sooner(beside(n, len, s1), beside(n, len, s2)),
-        beside(n, len, s3),
-    )
+    if alike(n, s0.len(), s1, s2, s3) {
+        return 0;
+    }
+    sooner(sooner(beside(n, s1), beside(n, s2)), beside(n, s3))
 }
 
-// The values that a code takes before it puts one, where the four slices have these lengths; 9 for a code that may not stand there.
-fn takes(code: u8, lens: &[usize; 4]) -> usize
-    ensures { λ r. ⌜ r ≡ takesIn (now (lens .entry)) code ⌝ }
+// How many values wait once a code has taken t of d and put one; 0 where there are too few, or where eight stay.
+fn put(d: usize, t: usize) -> usize
+    requires { ⌜ d ≤ 8 ⌝ }
+    ensures { λ r. ⌜ r ≡ waiting t d ⌝ }
+{
+    if d < t {
+        return 0;
+    }
+    if 8 <= d - t {
+        return 0;
+    }
+    d - t + 1
+}
+
+// How many values wait after a code where d wait before it and the four slices have these lengths; 0 also for a code that may not stand
+// there. 19 takes one value, 20 none.
+fn after(code: u8, lens: &[usize; 4], d: usize) -> usize
+    requires { ⌜ d ≤ 8 ⌝ }
+    ensures { λ r. ⌜ r ≡ waiting (takesIn (now (lens .entry)) code) d ⌝ }
 {
     match code {
         0..=3 => {
             let i = code as usize;
             if lens[i] == 0 {
-                return 9;
+                return 0;
             }
-            0
+            put(d, 0)
         }
-        16..=18 => 2,
-        19 => 1,
-        20 => 0,
-        _ => 9,
+        16..=18 => put(d, 2),
+        19..=20 => put(d, (20 - code) as usize),
+        _ => 0,
     }
 }
 
@@ -120,15 +159,10 @@ fn left(codes: &[u8], lens: &[usize; 4]) -> usize
     let mut d = 0usize;
     let mut j = 0usize;
     while j < codes.len() {
-        let t = takes(codes[j], lens);
-        if d < t {
+        d = after(codes[j], lens, d);
+        if d == 0 {
             return 0;
         }
-        d -= t;
-        if 8 <= d {
-            return 0;
-        }
-        d += 1;
         j += 1;
     }
     d

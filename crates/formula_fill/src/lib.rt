@@ -87,7 +87,7 @@ fn fill_in(
     }
 }
 
-// As many members of a formula as `out` holds or the budget allows.
+// As many members of a formula as `out` holds or the budget allows. A fill of a pair judges its cursor itself.
 pub fn fill(
     c: Cursor,
     codes: &[u8],
@@ -100,12 +100,16 @@ pub fn fill(
 ) -> Batch
     ensures { λ r. ⌜ Settled batchPaper (fillOf (four (now (s0 .entry)) (now (s1 .entry)) (now (s2 .entry)) (now (s3 .entry))) (now (codes .entry)) c budget (now (out .entry))) r (now (out .exit)) ⌝ }
 {
-    let no = formula_iter::refusal(c, codes, s0, s1, s2, s3);
+    let no = codes::check(codes, s0, s1, s2, s3);
     if no != 0 {
         return refused(c, no);
     }
     if pairs::is_pair(codes) {
         return named_fill::fill(c, codes, s0, s1, s2, s3, budget, out);
+    }
+    let bad = c.refusal(1);
+    if bad != 0 {
+        return refused(c, bad);
     }
     let n = store::get(s0, 0) as usize;
     fill_in(c, codes, n, s0, s1, s2, s3, budget, out)

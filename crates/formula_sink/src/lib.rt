@@ -1,14 +1,13 @@
 // The descent of a walk over a formula: words are read until none is wanted or the budget is spent. A formula word counts one read.
-ghost use mathlib.Core.Bool.{true};
 ghost use mathlib.Core.Path.{_≡_};
 ghost use Prim.Native.Nat.{_+_, _-_, _<_};
 ghost use lib.ListN.{getD};
-ghost use Rattle.iter.specs.Steps.{isReading, Lowers, Sinks};
-ghost use Rattle.iter.specs.Walk.{lowLayer, kind, handled};
+ghost use Rattle.iter.specs.Steps.{Lowers, Sinks};
+ghost use Rattle.iter.specs.Walk.{lowLayer, handled};
 ghost use Rattle.codes.specs.Tree.{four};
 ghost use Rattle.codes.specs.Codes.{cutsIn};
 ghost use Rattle.machine.specs.Machine.{machineWord};
-ghost use Rattle.formula_sink.specs.Steps.{Spotted};
+ghost use Rattle.formula_sink.specs.Steps.{Spotted, Wanted};
 use iter::Cursor;
 use iter::Sunk;
 
@@ -32,19 +31,35 @@ fn below(c: Cursor, k: usize, n: usize) -> Spot
     }
 }
 
-// The same, with the layer looked for. A literal layer number keeps the cursor in registers.
+// No word: there are three layers below the top.
+fn nothing() -> Spot
+    ensures { λ r. ⌜ r ≡ record { layer = 3; index = 0; at = 0 } ⌝ }
+{
+    Spot {
+        layer: 3,
+        index: 0,
+        at: 0,
+    }
+}
+
+// The word that has to be read, if there is one. A literal layer number keeps the cursor in registers, and no mask is asked for twice.
 fn wanted(c: Cursor, n: usize) -> Spot
-    requires { ⌜ isReading (kind 3 c) ≡ true ⌝ }
-    ensures { λ r. ⌜ Spotted n c r ⌝ }
+    ensures { λ r. ⌜ Wanted n c r ⌝ }
 {
     let masks = c.masks;
+    if masks[0] != 0 {
+        return nothing();
+    }
     if masks[1] != 0 {
         return below(c, 0, n);
     }
     if masks[2] != 0 {
         return below(c, 1, n);
     }
-    below(c, 2, n)
+    if masks[3] != 0 {
+        return below(c, 2, n);
+    }
+    nothing()
 }
 
 // The word is taken into the cursor, in the same way.
@@ -64,6 +79,7 @@ fn lower(c: Cursor, j: usize, w: u64) -> Cursor
 // One word is read.
 fn read(
     c: Cursor,
+    p: Spot,
     codes: &[u8],
     cuts: bool,
     n: usize,
@@ -72,10 +88,9 @@ fn read(
     s2: &[u64],
     s3: &[u64],
 ) -> Cursor
-    requires { ⌜ (isReading (kind 3 c) ≡ true) × (cuts ≡ cutsIn (now codes)) ⌝ }
+    requires { ⌜ (Spotted n c p) × (cuts ≡ cutsIn (now codes)) ⌝ }
     ensures { λ r. ⌜ Lowers (machineWord n (four (now (s0 .entry)) (now (s1 .entry)) (now (s2 .entry)) (now (s3 .entry))) (now (codes .entry))) (lowLayer 3 c - 1) c r ⌝ }
 {
-    let p = wanted(c, n);
     let x = spots::cut(cuts, n, p.layer, p.index);
     let w = machine::word_at(codes, p.layer, x, p.at, s0, s1, s2, s3);
     lower(c, p.layer, w)
@@ -98,11 +113,12 @@ pub fn sink(
     let cuts = codes::cuts(codes);
     let mut c = from;
     let mut reads = spent;
-    while c.wants() {
-        if budget <= reads {
+    while reads < budget {
+        let p = wanted(c, n);
+        if p.layer == 3 {
             break;
         }
-        c = read(c, codes, cuts, n, s0, s1, s2, s3);
+        c = read(c, p, codes, cuts, n, s0, s1, s2, s3);
         reads += 1;
     }
     Sunk { cursor: c, reads }

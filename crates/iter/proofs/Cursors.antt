@@ -102,21 +102,35 @@ resting-low t c e z = go (lowLayer t c) (low-found (c .masks) 0 (suc t)) e
     go zero low h = absurd (omega (arith, low .found (omega arith)))
     go (suc j) low h = past j (ltb j t) refl (omega (arith, low .last)) h
 
--- a word has to be read: the layer above it is the first of the layers 1, 2 and 3 whose mask is not 0
-module _ (c : Cursor) (want : isReading (kind 3 c) ≡ true) where
+-- the first layer whose mask is not 0, as a search from layer 0 on meets it, and whether a word has to be read
+pub wants-at : (c : Cursor) {j : ℕ} → lowLayer 3 c ≡ suc j → j < 3 → isReading (kind 3 c) ≡ true
+wants-at c {j} e h = ap (λ (l : ℕ). isReading (kindOf 3 l)) e ∙ ap (λ (b : Bool). isReading (cond b (reads j) done)) (lt-ltb j 3 h)
+
+pub rests-at-hand : (c : Cursor) → getD (c .masks) 0 0 ≢ 0 → isReading (kind 3 c) ≡ false
+rests-at-hand c h = ap (λ (l : ℕ). isReading (kindOf 3 l)) (low-stop (c .masks) 0 3 h)
+
+module _ (c : Cursor) (x : getD (c .masks) 0 0 ≡ 0) where
   pub low-one-of-three : getD (c .masks) 1 0 ≢ 0 → (lowLayer 3 c ≡ 1) × (0 < getD (c .masks) 1 0)
-  low-one-of-three h = (low-pass (c .masks) 0 3 (reading-zero 3 c want) ∙ low-stop (c .masks) 1 2 h, omega (arith, h))
+  low-one-of-three h = (low-pass (c .masks) 0 3 x ∙ low-stop (c .masks) 1 2 h, omega (arith, h))
 
   module _ (z : getD (c .masks) 1 0 ≡ 0) where
     pub low-two-of-three : getD (c .masks) 2 0 ≢ 0 → (lowLayer 3 c ≡ 2) × (0 < getD (c .masks) 2 0)
-    low-two-of-three h =
-        (low-pass (c .masks) 0 3 (reading-zero 3 c want) ∙ low-pass (c .masks) 1 2 z ∙ low-stop (c .masks) 2 1 h, omega (arith, h))
+    low-two-of-three h = (low-pass (c .masks) 0 3 x ∙ low-pass (c .masks) 1 2 z ∙ low-stop (c .masks) 2 1 h, omega (arith, h))
 
-    pub low-three-of-three : getD (c .masks) 2 0 ≡ 0 → (lowLayer 3 c ≡ 3) × (0 < getD (c .masks) 3 0)
-    low-three-of-three y =
-        let p = low-pass (c .masks) 0 3 (reading-zero 3 c want) ∙ low-pass (c .masks) 1 2 z ∙ low-pass (c .masks) 2 1 y in
-        let e : lowLayer 3 c ≡ 3 = omega (arith, p, low-found (c .masks) 3 1 .first, reading-low 3 c want) in
-        (e, subst (λ (k : ℕ). 0 < getD (c .masks) k 0) e (low-found (c .masks) 0 4 .found (omega (arith, e))))
+    module _ (y : getD (c .masks) 2 0 ≡ 0) where
+      pub low-three-of-three : getD (c .masks) 3 0 ≢ 0 → (lowLayer 3 c ≡ 3) × (0 < getD (c .masks) 3 0)
+      low-three-of-three h =
+          (low-pass (c .masks) 0 3 x ∙ low-pass (c .masks) 1 2 z ∙ low-pass (c .masks) 2 1 y ∙ low-stop (c .masks) 3 0 h, omega (arith, h))
+
+      pub rests-at-the-end : getD (c .masks) 3 0 ≡ 0 → isReading (kind 3 c) ≡ false
+      unfolding lowFrom
+      rests-at-the-end h =
+          ap (λ (l : ℕ). isReading (kindOf 3 l))
+          (low-pass (c .masks) 0 3 x ∙ low-pass (c .masks) 1 2 z ∙ low-pass (c .masks) 2 1 y ∙ low-pass (c .masks) 3 0 h)
+
+      -- where a word has to be read, it is below layer 3
+      pub top-wanted : isReading (kind 3 c) ≡ true → getD (c .masks) 3 0 ≢ 0
+      top-wanted want e = true≢false (sym want ∙ rests-at-the-end e)
 
 -- ---- prefixes
 

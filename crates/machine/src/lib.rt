@@ -6,7 +6,7 @@ ghost use Prim.Native.Nat.{_%_, _≤_, _<_};
 ghost use lib.ListN.{length, getD};
 ghost use Rattle.codes.specs.Tree.{four};
 ghost use Rattle.codes.specs.Codes.{kindOf};
-ghost use Rattle.machine.specs.Steps.{JoinsTwo, Joins, Turned};
+ghost use Rattle.machine.specs.Steps.{JoinsTwo, Joins, Going, Turned};
 ghost use Rattle.machine.specs.Machine.{made, moves, evaluated, begun, wordAt, machineWord};
 
 // What a code makes of the last two values in layer k, where the bits that exist are `cut` and the stores' words are `words`.
@@ -88,16 +88,16 @@ fn joins_two(codes: &[u8], j: usize) -> bool
 
 // Whether the codes from code j on begin with two stores and what joins them.
 fn joins(codes: &[u8], j: usize) -> bool
-    requires { ⌜ j < length (now codes) ⌝ }
+    requires { ⌜ j ≤ length (now codes) ⌝ }
     ensures { λ r. ⌜ (r ≡ true → Joins (now (codes .entry)) j) ⌝ }
 {
+    if !joins_two(codes, j + 2) {
+        return false;
+    }
     if 3 < codes[j] {
         return false;
     }
-    if joins_two(codes, j + 2) {
-        return codes[j + 1] < 4;
-    }
-    false
+    codes[j + 1] < 4
 }
 
 // Three codes at a time, where two stores are joined, and a fourth that joins what waits with them: no value waits for the stack, which is
@@ -160,14 +160,30 @@ fn next_turn(
     one(codes, j, k, cut, words, stack, d, last)
 }
 
+// The first codes, where two stores are joined: nothing waits yet, so that the places in the stack are known to the compiler.
+fn opening(codes: &[u8], k: usize, cut: u64, words: &[u64; 4], stack: &mut [u64]) -> Turn
+    requires { ⌜ now stack ≡ begun .words ⌝ }
+    ensures { λ r. ⌜ Going k cut (now (words .entry)) (now (codes .entry)) (now (stack .exit)) (r .place) (r .last) (r .next) ⌝ }
+{
+    if joins(codes, 0) {
+        return three(codes, 0, k, cut, words, stack, 0, 0);
+    }
+    Turn {
+        last: 0,
+        place: 0,
+        next: 0,
+    }
+}
+
 // The codes one after another: the last value stands in `last`, those before it in the stack.
 fn evaluate(codes: &[u8], k: usize, cut: u64, words: &[u64; 4]) -> u64
     ensures { λ r. ⌜ r ≡ evaluated k cut (now (words .entry)) (now (codes .entry)) begun ⌝ }
 {
     let mut stack = [0u64; 8];
-    let mut d = 0usize;
-    let mut last = 0u64;
-    let mut j = 0usize;
+    let o = opening(codes, k, cut, words, &mut stack);
+    let mut d = o.place;
+    let mut last = o.last;
+    let mut j = o.next;
     while j < codes.len() {
         let t = next_turn(codes, j, k, cut, words, &mut stack, d, last);
         last = t.last;

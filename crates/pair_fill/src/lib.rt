@@ -1,16 +1,15 @@
 // Many members of two stores joined by one code: the commonest formula, walked over the layers of the two stores with no look at its codes.
-ghost use mathlib.Core.Bool.{true};
 ghost use mathlib.Core.List.{[], _∷_};
 ghost use mathlib.Core.Path.{_≡_};
-ghost use Prim.Native.Nat.{ℕ, _+_, _-_, _<_};
+ghost use Prim.Native.Nat.{ℕ, _+_, _<_};
 ghost use lib.ListN.{length, getD};
 ghost use Rattle.util.specs.Outcome.{Settled};
 ghost use Rattle.iter.specs.Calls.{Fine};
-ghost use Rattle.iter.specs.Steps.{isReading, Lowers, Sinks};
-ghost use Rattle.iter.specs.Walk.{lowLayer, kind};
+ghost use Rattle.iter.specs.Steps.{Lowers, Sinks};
 ghost use Rattle.fill.specs.Fill.{fillFrom, batchPaper, filled};
 ghost use Rattle.codes.specs.Tree.{joined};
 ghost use Rattle.pair_fill.specs.Pair.{joinedParts, pairOf};
+ghost use Rattle.pair_fill.specs.Steps.{Stepped};
 use fill::Batch;
 use fill::Stop;
 use iter::Cursor;
@@ -26,7 +25,15 @@ fn read(c: Cursor, code: u8, a: &[u64], b: &[u64], j: usize) -> Cursor
     c.handle_level(j, w)
 }
 
-// One word is read. Each layer has a way of its own, so that the masks stay in registers.
+// A cursor after so many reads.
+fn sunk(c: Cursor, reads: u64) -> Sunk
+    ensures { λ r. ⌜ r ≡ record { cursor = c; reads = reads } ⌝ }
+{
+    Sunk { cursor: c, reads }
+}
+
+// One word is read where one is wanted, and the reads say whether. Each layer has a way of its own, so that the masks stay in registers and
+// none is asked for twice.
 fn down(
     c: Cursor,
     code: u8,
@@ -36,21 +43,26 @@ fn down(
     b2: &[u64],
     b1: &[u64],
     b0: &[u64],
-) -> Cursor
-    requires { ⌜ isReading (kind 3 c) ≡ true ⌝ }
-    ensures { λ r. ⌜ Lowers (joinedParts code (now (a0 .entry) ∷ now (a1 .entry) ∷ now (a2 .entry) ∷ []) (now (b0 .entry) ∷ now (b1 .entry) ∷ now (b2 .entry) ∷ [])) (lowLayer 3 c - 1) c r ⌝ }
+) -> Sunk
+    ensures { λ r. ⌜ Stepped (joinedParts code (now (a0 .entry) ∷ now (a1 .entry) ∷ now (a2 .entry) ∷ []) (now (b0 .entry) ∷ now (b1 .entry) ∷ now (b2 .entry) ∷ [])) c r ⌝ }
 {
     let masks = c.masks;
+    if masks[0] != 0 {
+        return sunk(c, 0);
+    }
     if masks[1] != 0 {
-        return read(c, code, a0, b0, 0);
+        return sunk(read(c, code, a0, b0, 0), 1);
     }
     if masks[2] != 0 {
-        return read(c, code, a1, b1, 1);
+        return sunk(read(c, code, a1, b1, 1), 1);
     }
-    read(c, code, a2, b2, 2)
+    if masks[3] != 0 {
+        return sunk(read(c, code, a2, b2, 2), 1);
+    }
+    sunk(c, 0)
 }
 
-// After so many reads, words are read until none is wanted or the budget is spent.
+// After so many reads, words are read until none is wanted or the budget is spent. A member at hand is met first, so that it costs one test.
 fn sink(
     from: Cursor,
     code: u8,
@@ -65,13 +77,21 @@ fn sink(
 ) -> Sunk
     ensures { λ r. ⌜ Sinks (joinedParts code (now (a0 .entry) ∷ now (a1 .entry) ∷ now (a2 .entry) ∷ []) (now (b0 .entry) ∷ now (b1 .entry) ∷ now (b2 .entry) ∷ [])) budget spent from r ⌝ }
 {
+    let masks = from.masks;
+    if masks[0] != 0 {
+        return Sunk {
+            cursor: from,
+            reads: spent,
+        };
+    }
     let mut c = from;
     let mut reads = spent;
-    while c.wants() {
-        if budget <= reads {
+    while reads < budget {
+        let d = down(c, code, a2, a1, a0, b2, b1, b0);
+        if d.reads == 0 {
             break;
         }
-        c = down(c, code, a2, a1, a0, b2, b1, b0);
+        c = d.cursor;
         reads += 1;
     }
     Sunk { cursor: c, reads }

@@ -3,7 +3,7 @@ use Prim.Native.Nat.{_-_}
 use native.Mathlib.Omega.{arith}
 use borrow.Author.Needs.{needs}
 use lib.ListN.{length}
-use Rattle.codes.proofs.Turns.{going-start, too-few, too-many, goes-on, all-done}
+use Rattle.codes.proofs.Turns.{going-start, stops, goes-on, all-done}
 use Rattle.codes.specs.Steps.{Going}
 use Rattle.codes.proofs.left.Statement.{statement}
 use Rattle.codes.proofs.left.Tie as tie
@@ -17,36 +17,26 @@ abbrev μ-loop : tie.MeasureT-loop
 loop-holds : tie.Need-loop-holds Inv-loop μ-loop
 loop-holds c = going-start _ _
 
-shared-slice-read-takes : tie.Need-shared-slice-read-takes Inv-loop μ-loop
-shared-slice-read-takes c = search needs
+shared-slice-read-after : tie.Need-shared-slice-read-after Inv-loop μ-loop
+shared-slice-read-after c = search needs
 
-takes-requires : tie.Need-takes-requires Inv-loop μ-loop
-takes-requires c κs = search needs
+after-requires : tie.Need-after-requires Inv-loop μ-loop
+after-requires c κs = c .before .before .loop .inv .few
 
 returns : tie.Need-returns Inv-loop μ-loop
-returns c = let t = c .before in too-few (t .before .before .before .loop .inv) (t .before .before .loop-test .taken) (t .takes .ensures) (c .if1 .taken)
-
-returns-2 : tie.Need-returns-2 Inv-loop μ-loop
-returns-2 c =
-    let t = c .before .before in
-    too-many (t .before .before .before .loop .inv) (t .before .before .loop-test .taken) (t .takes .ensures) (c .before .if1 .left) (c .if2 .taken)
-
-add-d : tie.Need-add-d Inv-loop μ-loop
-add-d c = search needs
+returns c = let t = c .before in stops (t .before .before .before .loop .inv) (t .before .before .loop-test .taken) (t .after .ensures) (c .if1 .taken)
 
 add-j : tie.Need-add-j Inv-loop μ-loop
 add-j c = search needs
 
 loop-less : tie.Need-loop-less Inv-loop μ-loop
-loop-less c = omega (arith, c .before .before .before .before .loop-test .taken)
+loop-less c = omega (arith, c .before .before .before .loop-test .taken)
 
 loop-again : tie.Need-loop-again Inv-loop μ-loop
-loop-again c =
-    let t = c .before .before in
-    goes-on (t .before .before .before .loop .inv) (t .before .before .loop-test .taken) (t .takes .ensures) (c .before .if1 .left) (c .if2 .left)
+loop-again c = let t = c .before in goes-on (t .before .before .before .loop .inv) (t .before .before .loop-test .taken) (t .after .ensures) (c .if1 .left)
 
-returns-3 : tie.Need-returns-3 Inv-loop μ-loop
-returns-3 c = all-done (c .before .loop .inv) (c .loop-test .left)
+returns-2 : tie.Need-returns-2 Inv-loop μ-loop
+returns-2 c = all-done (c .before .loop .inv) (c .loop-test .left)
 
 pub left-spec : {M : Type 1} → statement M
 left-spec =
@@ -55,12 +45,10 @@ left-spec =
     Inv-loop
     μ-loop
     loop-holds
-    shared-slice-read-takes
-    takes-requires
+    shared-slice-read-after
+    after-requires
     returns
-    returns-2
-    add-d
     add-j
     loop-less
     loop-again
-    returns-3)
+    returns-2)

@@ -3,7 +3,7 @@ use borrow.Author.Needs.{needs}
 use denote.Ref.{now}
 use Rattle.store.specs.Layout.{StoreOf}
 use Rattle.store.proofs.Ends.{some-store, no-store}
-use Rattle.codes.proofs.Answers.{stores-2, stores-first}
+use Rattle.codes.proofs.Answers.{stores-2, stores-alike, stores-first}
 use Rattle.codes.proofs.stores.Statement.{statement}
 use Rattle.codes.proofs.stores.Tie as tie
 
@@ -20,30 +20,39 @@ returns c =
 first : (c : tie.Else1) → StoreOf (c .before .capacity .result) (c .before .before .before .before .before .before .args .s0 .now)
 first c = let y = c .before in some-store (y .before .before .before .before .before .args .s0 .now) (y .capacity .ensures) (c .if1 .left)
 
+alike-requires : tie.Need-alike-requires
+alike-requires c κs = let z = first c in (z .some, z .most, z .long)
+
+returns-2 : tie.Need-returns-2
+returns-2 c =
+    let l = c .before in
+    let e = l .before in
+    let a = e .before .before .before .before .before .before .args in
+    stores-alike (a .s0 .now) (a .s1 .now) (a .s2 .now) (a .s3 .now) (first e) (l .alike .ensures (c .if2 .taken))
+
 beside-requires : tie.Need-beside-requires
-beside-requires c κs = let z = first c in (z .some, z .most, z .long)
+beside-requires c κs = search needs
 
 beside-requires-2 : tie.Need-beside-requires-2
-beside-requires-2 c κs = let z = first (c .before) in (z .some, z .most, z .long)
+beside-requires-2 c κs = search needs
 
 sooner-requires : tie.Need-sooner-requires
 sooner-requires c κs = search needs
 
 beside-requires-3 : tie.Need-beside-requires-3
-beside-requires-3 c κs = let z = first (c .before .before .before) in (z .some, z .most, z .long)
+beside-requires-3 c κs = search needs
 
 sooner-requires-2 : tie.Need-sooner-requires-2
 sooner-requires-2 c κs = search needs
 
-returns-2 : tie.Need-returns-2
-returns-2 c =
+returns-3 : tie.Need-returns-3
+returns-3 c =
     let x3 = c .before in
     let o = x3 .before in
     let x2 = o .before in
     let x1 = x2 .before in
-    let e = x1 .before in
-    let y = e .before in
-    let a = y .before .before .before .before .before .args in
+    let e = x1 .before .before .before in
+    let a = e .before .before .before .before .before .before .args in
     stores-first (a .s0 .now) (a .s1 .now) (a .s2 .now) (a .s3 .now) (first e)
     (x1 .beside .ensures) (x2 .beside2 .ensures) (x3 .beside3 .ensures) (o .sooner .ensures) (c .sooner2 .ensures)
 
@@ -53,9 +62,11 @@ stores-spec =
     (tie.spec
     capacity-requires
     returns
+    alike-requires
+    returns-2
     beside-requires
     beside-requires-2
     sooner-requires
     beside-requires-3
     sooner-requires-2
-    returns-2)
+    returns-3)

@@ -1,20 +1,22 @@
 -- `formula_fill::fill` meets its contract: a pair over the layers of its stores, any other codes by the machine. Assumes nothing.
-use mathlib.Core.Path.{sym, _∙_}
+use mathlib.Core.Path.{_≡_, sym, _∙_}
 use Rattle.iter.proofs.Cursors.{fine-of}
+use Rattle.codes.specs.Tree.{four}
+use Rattle.formula_iter.specs.Calls.{refusalIn}
 use Rattle.pairs.specs.Pairs.{Pair}
 use Rattle.pairs.proofs.Laws.{pair-of}
-use Rattle.formula_iter.proofs.Answers.{none-refused}
+use Rattle.formula_iter.proofs.Answers.{refusal-formula, refusal-cursor, none-refused}
 use Rattle.formula_fill.proofs.Answers.{fill-refused, fill-joins, fill-runs}
 use borrow.Author.Needs.{needs}
 use Rattle.formula_fill.proofs.fill.Statement.{statement}
 use Rattle.formula_fill.proofs.fill.Tie as tie
 
 -- where it begins
-abbrev begin : tie.After-refusal → tie.Start
+abbrev begin : tie.After-check → tie.Start
 begin c = c .before .before .before .before .before .before .before
 
-refusal-requires : tie.Need-refusal-requires
-refusal-requires c κs = search needs
+check-requires : tie.Need-check-requires
+check-requires c κs = search needs
 
 refused-requires : tie.Need-refused-requires
 refused-requires c κs = search needs
@@ -22,8 +24,11 @@ refused-requires c κs = search needs
 returns : tie.Need-returns
 returns c =
     let t = c .before in
-    let a = begin (t .before) .args in
-    fill-refused (a .s0 .now) (a .s1 .now) (a .s2 .now) (a .s3 .now) (a .codes .now) (a .c) (t .before .refusal .ensures) (a .budget) (a .out .now) (t .if1 .taken) (c .refused .ensures)
+    let k = t .before in
+    let a = begin k .args in
+    fill-refused (a .s0 .now) (a .s1 .now) (a .s2 .now) (a .s3 .now) (a .codes .now) (a .c)
+    (refusal-formula (a .s0 .now) (a .s1 .now) (a .s2 .now) (a .s3 .now) (a .codes .now) (k .check .ensures) (a .c) (t .if1 .taken))
+    (a .budget) (a .out .now) (t .if1 .taken) (c .refused .ensures)
 
 is-pair-requires : tie.Need-is-pair-requires
 is-pair-requires c κs = search needs
@@ -44,40 +49,64 @@ returns-2 c =
     let t = f .before .before in
     let e = t .before .before in
     let a = begin (e .before) .args in
-    fill-joins (a .s0 .now) (a .s1 .now) (a .s2 .now) (a .s3 .now) (a .codes .now) (a .c) (e .before .refusal .ensures) (a .budget) (a .out .now) (e .if1 .left) (pair-here t) (f .fill .ensures)
+    fill-joins (a .s0 .now) (a .s1 .now) (a .s2 .now) (a .s3 .now) (a .codes .now) (a .c) (sym (e .before .check .ensures) ∙ e .if1 .left) (pair-here t) (a .budget) (a .out .now) (f .fill .ensures)
+
+refusal-requires : tie.Need-refusal-requires
+refusal-requires c κs = search needs
+
+-- what the walk is refused for, once the codes are a formula
+judged : (c : tie.After-refusal)
+    → let a = begin (c .before .before .before .before) .args in
+    c .refusal .result ≡ refusalIn (four (a .s0 .now) (a .s1 .now) (a .s2 .now) (a .s3 .now)) (a .codes .now) (a .c)
+judged c =
+    let e = c .before .before .before in
+    let a = begin (e .before) .args in
+    refusal-cursor (a .s0 .now) (a .s1 .now) (a .s2 .now) (a .s3 .now) (a .codes .now) (e .before .check .ensures) (a .c) (e .if1 .left) (c .refusal .ensures)
+
+refused-requires-2 : tie.Need-refused-requires-2
+refused-requires-2 c κs = search needs
+
+returns-3 : tie.Need-returns-3
+returns-3 c =
+    let t = c .before in
+    let a = begin (t .before .before .before .before .before) .args in
+    fill-refused (a .s0 .now) (a .s1 .now) (a .s2 .now) (a .s3 .now) (a .codes .now) (a .c) (judged (t .before)) (a .budget) (a .out .now) (t .if3 .taken) (c .refused2 .ensures)
 
 get-requires : tie.Need-get-requires
 get-requires c κs = search needs
 
 fill-in-requires : tie.Need-fill-in-requires
 fill-in-requires c κs =
-    let e = c .before .before .before .before in
-    let a = begin (e .before) .args in
-    fine-of 3 _ (none-refused (a .s0 .now) (a .s1 .now) (a .s2 .now) (a .s3 .now) (a .codes .now) (a .c) (e .before .refusal .ensures) (e .if1 .left) .1)
+    let t = c .before .before in
+    let a = begin (t .before .before .before .before .before) .args in
+    fine-of 3 _ (none-refused (a .s0 .now) (a .s1 .now) (a .s2 .now) (a .s3 .now) (a .codes .now) (a .c) (judged (t .before)) (t .if3 .left) .1)
 
 same-length-2 : tie.Need-same-length-2
 same-length-2 c = search needs
 
-returns-3 : tie.Need-returns-3
-returns-3 c =
+returns-4 : tie.Need-returns-4
+returns-4 c =
     let f = c .before .before in
     let g = f .before .before in
-    let e = g .before .before .before in
-    let a = begin (e .before) .args in
-    fill-runs (a .s0 .now) (a .s1 .now) (a .s2 .now) (a .s3 .now) (a .codes .now) (a .c) (e .before .refusal .ensures) (a .budget) (a .out .now) (e .if1 .left) (g .get .ensures) (f .fill-in .ensures)
+    let t = g .before in
+    let a = begin (t .before .before .before .before .before) .args in
+    fill-runs (a .s0 .now) (a .s1 .now) (a .s2 .now) (a .s3 .now) (a .codes .now) (a .c) (judged (t .before)) (a .budget) (a .out .now) (t .if3 .left) (g .get .ensures) (f .fill-in .ensures)
 
 pub fill-spec : {M : Type 1} → statement M
 fill-spec =
     tie.close
     (tie.spec
-    refusal-requires
+    check-requires
     refused-requires
     returns
     is-pair-requires
     fill-requires
     same-length
     returns-2
+    refusal-requires
+    refused-requires-2
+    returns-3
     get-requires
     fill-in-requires
     same-length-2
-    returns-3)
+    returns-4)

@@ -7,10 +7,6 @@ use Rattle.iter.proofs.Cursors.{lowers, lowers-at}
 use borrow.Author.Needs.{needs}
 use Rattle.formula_sink.proofs.read.Statement.{statement}
 use Rattle.formula_sink.proofs.read.Tie as tie
-use Rattle.formula_sink.proofs.wanted.Reads as wanted-reads
-
-wanted-requires : tie.Need-wanted-requires
-wanted-requires c κs = search needs
 
 cut-requires : tie.Need-cut-requires
 cut-requires c κs = search needs
@@ -25,15 +21,14 @@ returns : tie.Need-returns
 returns c =
     let w = c .before in
     let x = w .before in
-    let p = x .before in
-    let s = p .before .before .before .before .before .before in
+    let s = x .before .before .before .before .before .before in
     let a = s .args in
     let lw = machineWord (a .n) (four (a .s0 .now) (a .s1 .now) (a .s2 .now) (a .s3 .now)) (a .codes .now) in
-    let v = p .wanted .ensures in
+    let v = s .pre .0 in
     lowers-at (v .low) (λ i. refl) (lowers lw (v .small) (v .some) (v .placed)
     (word-cut-is (a .s0 .now) (a .s1 .now) (a .s2 .now) (a .s3 .now) (a .codes .now) (a .n) _ _ (v .stands) (s .pre .1) (x .cut .ensures) (w .word-at .ensures))
     (c .lower .ensures))
 
 pub read-spec : {M : Type 1} → statement M
 read-spec =
-    tie.close (tie.spec wanted-requires cut-requires word-at-requires lower-requires returns)
+    tie.close (tie.spec cut-requires word-at-requires lower-requires returns)

@@ -1,9 +1,9 @@
 -- `formula_sink::sink` meets its contract: `Sinking` is the invariant, as for one store. Assumes nothing.
-use mathlib.Core.Path.{sym, _∙_}
 use Prim.Native.Nat.{_-_}
 use native.Mathlib.Omega.{arith}
 use Rattle.codes.specs.Tree.{four}
 use Rattle.machine.specs.Machine.{machineWord}
+use Rattle.iter.proofs.Cursors.{wants-at}
 use Rattle.iter.proofs.Turns.{Sinking, sink-start, sink-again, sink-rests, sink-spent}
 use borrow.Author.Needs.{needs}
 use Rattle.formula_sink.proofs.sink.Statement.{statement}
@@ -21,29 +21,31 @@ cuts-requires c κs = search needs
 loop-holds : tie.Need-loop-holds Inv-loop μ-loop
 loop-holds c = sink-start _ _ _ _
 
-wants-requires : tie.Need-wants-requires Inv-loop μ-loop
-wants-requires c κs = search needs
+wanted-requires : tie.Need-wanted-requires Inv-loop μ-loop
+wanted-requires c κs = search needs
 
 read-requires : tie.Need-read-requires Inv-loop μ-loop
-read-requires c κs = let w = c .before .before in (sym (w .wants .ensures) ∙ c .before .if1 .taken, w .before .before .cuts .ensures)
+read-requires c κs = let w = c .before .before in (w .wanted .ensures .found (c .if1 .left), w .before .before .before .cuts .ensures)
 
 add-reads : tie.Need-add-reads Inv-loop μ-loop
-add-reads c = omega (arith, c .before .if2 .left)
+add-reads c = omega (arith, c .before .before .before .before .loop-test .taken)
 
 loop-less : tie.Need-loop-less Inv-loop μ-loop
-loop-less c = omega (arith, c .before .if2 .left)
+loop-less c = omega (arith, c .before .before .before .before .loop-test .taken)
 
 loop-again : tie.Need-loop-again Inv-loop μ-loop
 loop-again c =
     let e = c .before in
     let w = e .before .before in
-    sink-again (w .before .loop .inv) (sym (w .wants .ensures) ∙ e .before .if1 .taken) (omega (arith, e .if2 .left)) (c .read .ensures)
+    let l = w .before in
+    let s = w .wanted .ensures .found (e .if1 .left) in
+    sink-again (l .before .loop .inv) (wants-at (l .before .loop .c) (s .low) (s .small)) (l .loop-test .taken) (c .read .ensures)
 
 returns : tie.Need-returns Inv-loop μ-loop
-returns c = let w = c .before in sink-rests (w .before .loop .inv) (sym (w .wants .ensures) ∙ c .if1 .left)
+returns c = sink-spent (c .before .loop .inv) (c .loop-test .left)
 
 returns-2 : tie.Need-returns-2 Inv-loop μ-loop
-returns-2 c = sink-spent (c .before .before .before .loop .inv) (c .if2 .taken)
+returns-2 c = let w = c .before .before in sink-rests (w .before .before .loop .inv) (w .wanted .ensures .none (c .if1 .taken))
 
 pub sink-spec : {M : Type 1} → statement M
 sink-spec =
@@ -53,7 +55,7 @@ sink-spec =
     μ-loop
     cuts-requires
     loop-holds
-    wants-requires
+    wanted-requires
     read-requires
     add-reads
     loop-less

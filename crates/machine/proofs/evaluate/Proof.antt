@@ -4,7 +4,7 @@ use Prim.Native.Nat.{_-_}
 use native.Mathlib.Omega.{arith}
 use lib.ListN.{length}
 use Rattle.machine.specs.Steps.{Going}
-use Rattle.machine.proofs.Arms.{going-start, goes-on, all-done}
+use Rattle.machine.proofs.Arms.{goes-on, all-done}
 use Rattle.machine.proofs.evaluate.Statement.{statement}
 use Rattle.machine.proofs.evaluate.Tie as tie
 use Rattle.machine.proofs.next_turn.Reads as next-turn-reads
@@ -15,8 +15,14 @@ Inv-loop codes k cut words stack₀ d₀ last₀ j₀ stack d last j = Going k c
 abbrev μ-loop : tie.MeasureT-loop
 μ-loop codes k cut words stack₀ d₀ last₀ j₀ stack d last j = length codes - j
 
+slice-aggregate-opening : tie.Need-slice-aggregate-opening Inv-loop μ-loop
+slice-aggregate-opening c = refl
+
+opening-requires : tie.Need-opening-requires Inv-loop μ-loop
+opening-requires c κs = refl
+
 loop-holds : tie.Need-loop-holds Inv-loop μ-loop
-loop-holds c = going-start _ _ _ _ _ refl
+loop-holds c = c .before .opening .ensures
 
 slice-aggregate-next-turn : tie.Need-slice-aggregate-next-turn Inv-loop μ-loop
 slice-aggregate-next-turn c = sym (c .before .before .loop .inv .long)
@@ -39,6 +45,8 @@ evaluate-spec =
     (tie.spec
     Inv-loop
     μ-loop
+    slice-aggregate-opening
+    opening-requires
     loop-holds
     slice-aggregate-next-turn
     next-turn-requires

@@ -1,7 +1,7 @@
 -- `iter::Cursor::down` meets its contract. Assumes nothing.
 use mathlib.Core.Path.{refl}
 use native.Mathlib.Omega.{arith}
-use Rattle.iter.proofs.Cursors.{low-one-of-three, low-two-of-three, low-three-of-three, lowers-at}
+use Rattle.iter.proofs.Cursors.{reading-zero, low-one-of-three, low-two-of-three, low-three-of-three, top-wanted, lowers-at}
 use borrow.Author.Needs.{needs}
 use Rattle.iter.proofs.Cursor.down.Statement.{statement}
 use Rattle.iter.proofs.Cursor.down.Tie as tie
@@ -20,7 +20,7 @@ returns : tie.Need-returns
 returns c =
     let t = c .before in
     let s = begin (t .before) in
-    lowers-at (low-one-of-three (s .args .self) (s .pre) (t .if1 .taken) .0) (λ i. refl) (c .read .ensures)
+    lowers-at (low-one-of-three (s .args .self) (reading-zero 3 (s .args .self) (s .pre)) (t .if1 .taken) .0) (λ i. refl) (c .read .ensures)
 
 array-read-if2 : tie.Need-array-read-if2
 array-read-if2 c = search needs
@@ -32,18 +32,21 @@ returns-2 : tie.Need-returns-2
 returns-2 c =
     let t = c .before in
     let s = begin (t .before .before) in
-    lowers-at (low-two-of-three (s .args .self) (s .pre) (t .before .if1 .left) (t .if2 .taken) .0) (λ i. refl) (c .read2 .ensures)
+    lowers-at (low-two-of-three (s .args .self) (reading-zero 3 (s .args .self) (s .pre)) (t .before .if1 .left) (t .if2 .taken) .0) (λ i. refl) (c .read2 .ensures)
 
 read-requires-3 : tie.Need-read-requires-3
 read-requires-3 c κs =
     let s = begin (c .before .before) in
-    (omega arith, low-three-of-three (s .args .self) (s .pre) (c .before .if1 .left) (c .if2 .left) .1)
+    let h = top-wanted (s .args .self) (reading-zero 3 (s .args .self) (s .pre)) (c .before .if1 .left) (c .if2 .left) (s .pre) in
+    (omega arith, omega (arith, h))
 
 returns-3 : tie.Need-returns-3
 returns-3 c =
     let t = c .before in
     let s = begin (t .before .before) in
-    lowers-at (low-three-of-three (s .args .self) (s .pre) (t .before .if1 .left) (t .if2 .left) .0) (λ i. refl) (c .read3 .ensures)
+    let z = reading-zero 3 (s .args .self) (s .pre) in
+    let h = top-wanted (s .args .self) z (t .before .if1 .left) (t .if2 .left) (s .pre) in
+    lowers-at (low-three-of-three (s .args .self) z (t .before .if1 .left) (t .if2 .left) h .0) (λ i. refl) (c .read3 .ensures)
 
 pub down-spec : {M : Type 1} → statement M
 down-spec =
