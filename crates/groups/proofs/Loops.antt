@@ -7,20 +7,20 @@ use Prim.Native.Nat.{ℕ, zero, suc, _+_, _-_, _*_, _%_, _^_, _≤_, _<_}
 use native.Mathlib.Decide.{decLt, ℕ-discrete}
 use native.Mathlib.Nat.{pow-suc}
 use native.Mathlib.Omega.{arith}
-use borrow.Author.Tests.{eqb-true}
+use borrow.Author.Tests.{eqb-true, ne-eqb}
 use lib.Bits.{bitOr, or-shifted-r, and-le-l}
 use lib.Dec.{eqb, leb}
 use lib.ListN.{length, getD, set, take, length-set}
 use lib.Pow.{shl-exact}
 use lib.Seq.{ext-getD, getD-set-same, getD-set-other, take-suc, take-all, length-take-le}
 use Rattle.util.specs.Word.{bit, flip, change, count}
-use Rattle.util.proofs.Bits.{bit-lt, bit-of-zero, bit-high, word-ext, change-same, change-other, change-lt}
+use Rattle.util.proofs.Bits.{bit-lt, bit-of-zero, bit-high, word-ext, change-same, change-other, change-lt, clear-minus}
 use Rattle.util.proofs.Same.{both}
 use Rattle.store.specs.Build.{flag, flags}
 use Rattle.store.proofs.Build.{flag-lt, flags-lt, bit-flags}
 use Rattle.operation.specs.Op.{opWord}
 use Rattle.groups.specs.Group.{named, marked, all, isDense, wordsOf, overOf, Merging, Naming}
-use Rattle.groups.proofs.Named.{length-named, named-here, named-off, marked-on, marked-off, marked-lt, bit-all}
+use Rattle.groups.proofs.Named.{length-named, named-op, named-here, named-off, marked-on, marked-off, marked-lt, bit-all}
 
 -- ---- every word merged
 
@@ -218,6 +218,11 @@ module _ {op : ℕ} {xs ys : List ℕ} {w m : ℕ} {zs : List ℕ} {v n : ℕ} (
       (λ i l. sym (marked-off n (named op m 0 xs ys) v i (h .few) l (ap (λ (y : ℕ). bit y i) e ∙ bit-of-zero i)))
       ∙ h .over
 
+-- the lowest word is taken off, as the code has it
+pub taken-off : {n n₁ t : ℕ} → n < 2 ^ 64 → t < 64 → bit n t ≡ 1 → n₁ ≡ n - 2 ^ t → n₁ ≡ change false n (t % 64)
+unfolding change
+taken-off {n} {n₁} {t} h l on e = let q : t ≡ t % 64 = omega arith in e ∙ sym (clear-minus n t h l on) ∙ ap (change false n) q
+
 -- each turn leaves less
 pub less-left : {n n₁ t : ℕ} → t < 64 → bit n t ≡ 1 → n₁ ≡ change false n (t % 64) → n₁ < n
 unfolding change
@@ -246,7 +251,27 @@ module _ (op : ℕ) (xs ys : List ℕ) (w m : ℕ) (zs : List ℕ) where
             ∙ ap (λ (q : List ℕ). marked all q w) e,
       )
 
-  pub sparse-out : (v n : ℕ) → isDense (length xs) (length ys) m ≡ false → n ≡ 0 → Naming op xs ys w m zs v n
+  pub sparse-out : (v : ℕ) → isDense (length xs) (length ys) m ≡ false → zs ≡ named op m 0 xs ys → v ≡ marked m (named op m 0 xs ys) w
       → (zs ≡ wordsOf op xs ys m) × (v ≡ overOf op xs ys w m)
   unfolding wordsOf overOf
-  sparse-out v n d e h = rw d (naming-words h e, naming-over h e)
+  sparse-out v d e f = rw d (e, f)
+
+-- a group that is not full is not dense
+pub short-sparse : (n l m : ℕ) → n ≢ 64 → isDense n l m ≡ false
+unfolding isDense
+short-sparse n l m h = rw (ne-eqb n 64 h) refl
+
+-- what is done by another number of the same operation
+pub same-op : (op o : ℕ) (w m : ℕ) (xs ys : List ℕ) {zs : List ℕ} {v : ℕ} → ((x y : ℕ) → opWord o x y ≡ opWord op x y)
+    → (zs ≡ named o m 0 xs ys) × (v ≡ marked m (named o m 0 xs ys) w) → (zs ≡ named op m 0 xs ys) × (v ≡ marked m (named op m 0 xs ys) w)
+same-op op o w m xs ys {zs} {v} e h =
+    let f = named-op op o m 0 xs ys e in
+    (h .0 ∙ f, h .1 ∙ ap (λ (q : List ℕ). marked m q w) f)
+
+pub op-equal : (op o : ℕ) → op ≡ o → (x y : ℕ) → opWord o x y ≡ opWord op x y
+op-equal op o e x y = ap (λ (q : ℕ). opWord q x y) (sym e)
+
+-- what is neither and nor or counts as xor
+pub op-else : (op : ℕ) → op ≢ 16 → op ≢ 17 → (x y : ℕ) → opWord 18 x y ≡ opWord op x y
+unfolding opWord
+op-else op h g x y = rw (ne-eqb op 16 h, ne-eqb op 17 g) refl
