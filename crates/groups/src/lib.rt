@@ -4,15 +4,9 @@ ghost use Prim.Native.Nat.{_<_};
 ghost use lib.Dec.{leb};
 ghost use lib.ListN.{length, getD, set};
 ghost use Rattle.util.specs.Word.{count};
-ghost use Rattle.store.specs.Build.{flag, flags};
+ghost use Rattle.store.specs.Build.{flags};
 ghost use Rattle.operation.specs.Op.{opWord};
 ghost use Rattle.groups.specs.Group.{named, marked, all, isDense, wordsOf, overOf};
-
-fn flag(x: u64) -> u64
-    ensures { λ r. ⌜ r ≡ flag x ⌝ }
-{
-    if x == 0 { 0 } else { 1 }
-}
 
 // Whether three words or fewer are named: a quick look, since to count the bits of a word takes some twenty instructions.
 fn is_few(m: u64) -> bool
@@ -47,25 +41,13 @@ fn merge_64(part: &mut [u64], other: &[u64], op: u64)
     }
 }
 
-// Its summary.
-fn flags_64(part: &[u64]) -> u64
-    requires { ⌜ length (now part) ≡ 64 ⌝ }
-    ensures { λ r. ⌜ r ≡ flags (now (part .entry)) ⌝ }
-{
-    let mut w = 0u64;
-    for t in 0..64 {
-        w = w | (flag(part[t]) << t);
-    }
-    w
-}
-
-// Both.
+// The same, and its summary.
 fn dense_64(part: &mut [u64], other: &[u64], op: u64) -> u64
     requires { ⌜ (length (now part) ≡ 64) × (length (now other) ≡ 64) ⌝ }
     ensures { λ r. ⌜ (now (part .exit) ≡ named op all 0 (now (part .entry)) (now (other .entry))) × (r ≡ flags (now (part .exit))) ⌝ }
 {
     merge_64(part, other, op);
-    flags_64(part)
+    flags::gather(part, 0)
 }
 
 // One word of a group; answers what stands there after, 0 past the group's end.
