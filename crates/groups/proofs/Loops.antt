@@ -1,26 +1,24 @@
 -- A turn and the end of each loop over a group.
 use mathlib.Core.Bool.{Bool, true, false, cond, not, _&&_}
-use mathlib.Core.List.{List, [], _∷_, _++_}
+use mathlib.Core.List.{List}
 use mathlib.Core.Logic.{_≢_}
 use mathlib.Core.Path.{_≡_, refl, sym, ap, ap₂, _∙_, subst}
-use Prim.Native.Nat.{ℕ, zero, suc, _+_, _-_, _*_, _%_, _^_, _≤_, _<_}
+use Prim.Native.Nat.{ℕ, zero, suc, _-_, _%_, _^_, _≤_, _<_}
 use native.Mathlib.Decide.{decLt, ℕ-discrete}
-use native.Mathlib.Nat.{pow-suc}
 use native.Mathlib.Omega.{arith}
-use borrow.Author.Tests.{eqb-true}
-use lib.Bits.{bitOr, or-shifted-r, and-le-l}
+use borrow.Author.Tests.{eqb-true, ne-eqb}
+use lib.Bits.{and-le-l}
 use lib.Dec.{eqb, leb}
-use lib.ListN.{length, getD, set, take, length-set}
-use lib.Pow.{shl-exact}
-use lib.Seq.{ext-getD, getD-set-same, getD-set-other, take-suc, take-all, length-take-le}
+use lib.ListN.{length, getD, set, take, drop, length-set}
+use lib.Seq.{ext-getD, getD-set-same, getD-set-other, take-all}
 use Rattle.util.specs.Word.{bit, flip, change, count}
-use Rattle.util.proofs.Bits.{bit-lt, bit-of-zero, bit-high, word-ext, change-same, change-other, change-lt}
+use Rattle.util.proofs.Bits.{bit-lt, bit-of-zero, bit-high, word-ext, change-same, change-other, change-lt, clear-minus}
 use Rattle.util.proofs.Same.{both}
 use Rattle.store.specs.Build.{flag, flags}
-use Rattle.store.proofs.Build.{flag-lt, flags-lt, bit-flags}
+use Rattle.store.proofs.Build.{flags-lt, bit-flags}
 use Rattle.operation.specs.Op.{opWord}
 use Rattle.groups.specs.Group.{named, marked, all, isDense, wordsOf, overOf, Merging, Naming}
-use Rattle.groups.proofs.Named.{length-named, named-here, named-off, marked-on, marked-off, marked-lt, bit-all}
+use Rattle.groups.proofs.Named.{length-named, named-op, named-here, named-off, marked-on, marked-off, marked-lt, bit-all}
 
 -- ---- every word merged
 
@@ -55,34 +53,8 @@ merging-end {op} {xs} {ys} {zs} {t} full h v =
 
 -- ---- the summary of a group
 
-flags-snoc : (xs : List ℕ) (x : ℕ) → flags (xs ++ (x ∷ [])) ≡ flag x * 2 ^ length xs + flags xs
-unfolding flags
-flags-snoc [] x = omega arith
-flags-snoc (y ∷ xs) x = let ih = flags-snoc xs x in omega (arith, pow-suc 2 (length xs), twice (flag x) (2 ^ length xs) (2 ^ suc (length xs)) (pow-suc 2 (length xs)))
-  where
-    twice : (a p q : ℕ) → q ≡ p * 2 → a * q ≡ 2 * (a * p)
-    twice zero p q e = omega arith
-    twice (suc a) p q e = let ih = twice a p q e in omega arith
-
--- the flags of the first t words, with that of the next
-pub flags-turn : (l : List ℕ) {w t f : ℕ} → length l ≡ 64 → t < 64 → w ≡ flags (take t l) → f ≡ flag (getD l t 0)
-    → bitOr w (f * 2 ^ t % 2 ^ 64) ≡ flags (take (suc t) l)
-flags-turn l {w} {t} {f} full h w-is f-is =
-    let long : length (take t l) ≡ t = length-take-le t l (omega arith) in
-    let low : flags (take t l) < 2 ^ t = subst (λ (n : ℕ). flags (take t l) < 2 ^ n) long (flags-lt (take t l)) in
-    ap₂ (λ (a b : ℕ). bitOr a (b * 2 ^ t % 2 ^ 64)) w-is f-is
-    ∙ ap (bitOr (flags (take t l))) (shl-exact {a = flag (getD l t 0)} 1 t 64 (flag-lt (getD l t 0)) (omega arith))
-    ∙ or-shifted-r (flag (getD l t 0)) t (flags (take t l)) low
-    ∙ ap (λ (n : ℕ). flag (getD l t 0) * 2 ^ n + flags (take t l)) (sym long)
-    ∙ sym (flags-snoc (take t l) (getD l t 0))
-    ∙ ap flags (sym (take-suc l t 0 (omega arith)))
-
-pub flags-start : (l : List ℕ) → 0 ≡ flags (take 0 l)
-unfolding flags
-flags-start l = refl
-
-pub flags-end : (l : List ℕ) {w t : ℕ} → length l ≡ 64 → 64 ≤ t → w ≡ flags (take t l) → w ≡ flags l
-flags-end l {w} {t} full h e = e ∙ ap flags (take-all t l (omega arith))
+pub flags-whole : (l : List ℕ) {w : ℕ} → length l ≡ 64 → w ≡ flags (take 64 (drop 0 l)) → w ≡ flags l
+flags-whole l {w} full e = e ∙ ap flags (take-all 64 l (omega arith))
 
 -- the word above a group that was merged whole
 pub marked-all : (zs : List ℕ) (w : ℕ) → length zs ≡ 64 → marked all zs w ≡ flags zs
@@ -218,6 +190,11 @@ module _ {op : ℕ} {xs ys : List ℕ} {w m : ℕ} {zs : List ℕ} {v n : ℕ} (
       (λ i l. sym (marked-off n (named op m 0 xs ys) v i (h .few) l (ap (λ (y : ℕ). bit y i) e ∙ bit-of-zero i)))
       ∙ h .over
 
+-- the lowest word is taken off, as the code has it
+pub taken-off : {n n₁ t : ℕ} → n < 2 ^ 64 → t < 64 → bit n t ≡ 1 → n₁ ≡ n - 2 ^ t → n₁ ≡ change false n (t % 64)
+unfolding change
+taken-off {n} {n₁} {t} h l on e = let q : t ≡ t % 64 = omega arith in e ∙ sym (clear-minus n t h l on) ∙ ap (change false n) q
+
 -- each turn leaves less
 pub less-left : {n n₁ t : ℕ} → t < 64 → bit n t ≡ 1 → n₁ ≡ change false n (t % 64) → n₁ < n
 unfolding change
@@ -246,7 +223,27 @@ module _ (op : ℕ) (xs ys : List ℕ) (w m : ℕ) (zs : List ℕ) where
             ∙ ap (λ (q : List ℕ). marked all q w) e,
       )
 
-  pub sparse-out : (v n : ℕ) → isDense (length xs) (length ys) m ≡ false → n ≡ 0 → Naming op xs ys w m zs v n
+  pub sparse-out : (v : ℕ) → isDense (length xs) (length ys) m ≡ false → zs ≡ named op m 0 xs ys → v ≡ marked m (named op m 0 xs ys) w
       → (zs ≡ wordsOf op xs ys m) × (v ≡ overOf op xs ys w m)
   unfolding wordsOf overOf
-  sparse-out v n d e h = rw d (naming-words h e, naming-over h e)
+  sparse-out v d e f = rw d (e, f)
+
+-- a group that is not full is not dense
+pub short-sparse : (n l m : ℕ) → n ≢ 64 → isDense n l m ≡ false
+unfolding isDense
+short-sparse n l m h = rw (ne-eqb n 64 h) refl
+
+-- what is done by another number of the same operation
+pub same-op : (op o : ℕ) (w m : ℕ) (xs ys : List ℕ) {zs : List ℕ} {v : ℕ} → ((x y : ℕ) → opWord o x y ≡ opWord op x y)
+    → (zs ≡ named o m 0 xs ys) × (v ≡ marked m (named o m 0 xs ys) w) → (zs ≡ named op m 0 xs ys) × (v ≡ marked m (named op m 0 xs ys) w)
+same-op op o w m xs ys {zs} {v} e h =
+    let f = named-op op o m 0 xs ys e in
+    (h .0 ∙ f, h .1 ∙ ap (λ (q : List ℕ). marked m q w) f)
+
+pub op-equal : (op o : ℕ) → op ≡ o → (x y : ℕ) → opWord o x y ≡ opWord op x y
+op-equal op o e x y = ap (λ (q : ℕ). opWord q x y) (sym e)
+
+-- what is neither and nor or counts as xor
+pub op-else : (op : ℕ) → op ≢ 16 → op ≢ 17 → (x y : ℕ) → opWord 18 x y ≡ opWord op x y
+unfolding opWord
+op-else op h g x y = rw (ne-eqb op 16 h, ne-eqb op 17 g) refl

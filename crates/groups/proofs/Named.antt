@@ -23,6 +23,13 @@ unfolding named
 length-named op m i [] ys = refl
 length-named op m i (x ∷ xs) ys = ap suc (length-named op m (suc i) xs ys)
 
+-- two numbers of one operation
+pub named-op : (op o m i : ℕ) (xs ys : List ℕ) → ((x y : ℕ) → opWord o x y ≡ opWord op x y) → named o m i xs ys ≡ named op m i xs ys
+unfolding named
+named-op op o m i [] ys e = refl
+named-op op o m i (x ∷ xs) ys e =
+    ap₂ (λ (z : ℕ) (zs : List ℕ). cond (eqb (bit m i) 1) z x ∷ zs) (e x (getD ys i 0)) (named-op op o m (suc i) xs ys e)
+
 -- word j of the group
 named-from : (op m i : ℕ) (xs ys : List ℕ) (j : ℕ) → j < length xs
     → getD (named op m i xs ys) j 0 ≡ cond (eqb (bit m (i + j)) 1) (opWord op (getD xs j 0) (getD ys (i + j) 0)) (getD xs j 0)

@@ -4,15 +4,9 @@ ghost use Prim.Native.Nat.{_<_};
 ghost use lib.Dec.{leb};
 ghost use lib.ListN.{length, getD, set};
 ghost use Rattle.util.specs.Word.{count};
-ghost use Rattle.store.specs.Build.{flag, flags};
+ghost use Rattle.store.specs.Build.{flags};
 ghost use Rattle.operation.specs.Op.{opWord};
-ghost use Rattle.groups.specs.Group.{named, all, isDense, wordsOf, overOf};
-
-fn flag(x: u64) -> u64
-    ensures { λ r. ⌜ r ≡ flag x ⌝ }
-{
-    if x == 0 { 0 } else { 1 }
-}
+ghost use Rattle.groups.specs.Group.{named, marked, all, isDense, wordsOf, overOf};
 
 // Whether three words or fewer are named: a quick look, since to count the bits of a word takes some twenty instructions.
 fn is_few(m: u64) -> bool
@@ -47,25 +41,13 @@ fn merge_64(part: &mut [u64], other: &[u64], op: u64)
     }
 }
 
-// Its summary.
-fn flags_64(part: &[u64]) -> u64
-    requires { ⌜ length (now part) ≡ 64 ⌝ }
-    ensures { λ r. ⌜ r ≡ flags (now (part .entry)) ⌝ }
-{
-    let mut w = 0u64;
-    for t in 0..64 {
-        w = w | (flag(part[t]) << t);
-    }
-    w
-}
-
-// Both.
+// The same, and its summary.
 fn dense_64(part: &mut [u64], other: &[u64], op: u64) -> u64
     requires { ⌜ (length (now part) ≡ 64) × (length (now other) ≡ 64) ⌝ }
     ensures { λ r. ⌜ (now (part .exit) ≡ named op all 0 (now (part .entry)) (now (other .entry))) × (r ≡ flags (now (part .exit))) ⌝ }
 {
     merge_64(part, other, op);
-    flags_64(part)
+    flags::gather(part, 0)
 }
 
 // One word of a group; answers what stands there after, 0 past the group's end.
@@ -80,6 +62,35 @@ fn leaf(part: &mut [u64], other: &[u64], t: usize, op: u64) -> u64
     0
 }
 
+// The words of a group that m names, one by one, each with the other's at its place; w is the word above the group. Answers the word above
+// after.
+pub fn one_by_one(part: &mut [u64], other: &[u64], w: u64, m: u64, op: u64) -> u64
+    ensures { λ r. ⌜ (now (part .exit) ≡ named op m 0 (now (part .entry)) (now (other .entry))) × (r ≡ marked m (named op m 0 (now (part .entry)) (now (other .entry))) w) ⌝ }
+{
+    let mut over = w;
+    let mut left = m;
+    while left != 0 {
+        let t = u64::trailing_zeros(left) as usize;
+        let z = leaf(part, other, t, op);
+        over = util::with_bit(over, t, z != 0);
+        left = lowest::drop_lowest(left);
+    }
+    over
+}
+
+// The same, with a loop of its own for each operation.
+fn sparse(part: &mut [u64], other: &[u64], w: u64, m: u64, op: u64) -> u64
+    ensures { λ r. ⌜ (now (part .exit) ≡ named op m 0 (now (part .entry)) (now (other .entry))) × (r ≡ marked m (named op m 0 (now (part .entry)) (now (other .entry))) w) ⌝ }
+{
+    if op == operation::AND {
+        return one_by_one(part, other, w, m, operation::AND);
+    }
+    if op == operation::OR {
+        return one_by_one(part, other, w, m, operation::OR);
+    }
+    one_by_one(part, other, w, m, operation::XOR)
+}
+
 // The words of a group that m names, each with the other's at its place; w is the word above the group. Answers the word above after.
 // Words that m does not name are merged too where the group goes as a whole.
 pub fn group(part: &mut [u64], other: &[u64], w: u64, m: u64, op: u64) -> u64
@@ -88,13 +99,5 @@ pub fn group(part: &mut [u64], other: &[u64], w: u64, m: u64, op: u64) -> u64
     if is_dense(part.len(), other.len(), m) {
         return dense_64(part, other, op);
     }
-    let mut over = w;
-    let mut left = m;
-    while left != 0 {
-        let t = u64::trailing_zeros(left) as usize;
-        let z = leaf(part, other, t, op);
-        over = util::with_bit(over, t, z != 0);
-        left = util::with_bit(left, t, false);
-    }
-    over
+    sparse(part, other, w, m, op)
 }

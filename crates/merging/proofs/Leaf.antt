@@ -15,7 +15,8 @@ use Rattle.store.proofs.Geometry.{end-step, same-place, after-header}
 use Rattle.store.proofs.Parts.{part-word}
 use Rattle.store.proofs.Words.{word-in, word-out}
 use Rattle.operation.specs.Op.{opWord, moved}
-use Rattle.groups.specs.Group.{wordsOf, overOf}
+use Rattle.groups.specs.Group.{named, marked, wordsOf, overOf}
+use Rattle.groups.proofs.Loops.{sparse-out, short-sparse}
 use Rattle.groups.proofs.Named.{length-words, words-at, over-at}
 use Rattle.merging.specs.Tree.{Told, Level}
 use Rattle.merging.proofs.Parts.{put-in, put-out}
@@ -139,3 +140,10 @@ module _ {N : ℕ} {s : List ℕ} {j a e : ℕ} (z : StoreOf N s) (x : Spot N s 
         flag : Told N op s b 0 j w m → (c : ℕ) → c / 64 ≡ j → (bit r (c % 64) ≡ 1) ↔ (word N (putMid a (e - a) s ys) 0 c ≢ 0)
         flag told c h =
             rw (over, at c h) (over-at op xs bs w m few (c % 64) (omega arith) (λ q. rw (spot-word s refl c h) (told .flagged c h q)))
+
+    -- the same of a group that is not full
+    pub level-short : {ys : List ℕ} {r : ℕ} → e < a + 64 → ys ≡ named op m 0 (midOf a (e - a) s) (midOf a (e - a) b)
+        → r ≡ marked m (named op m 0 (midOf a (e - a) s) (midOf a (e - a) b)) w → Level N op s b 0 j w m (putMid a (e - a) s ys) r 0
+    level-short {ys} {r} l is over =
+        let o = sparse-out op xs bs w m ys r (short-sparse (length xs) (length bs) m (λ z. omega (arith, z, mid-len a e s (low-high .1)))) is over in
+        level-leaves (o .0) (o .1)

@@ -12,14 +12,19 @@ fn least(x: usize, y: usize) -> usize
     if x < y { x } else { y }
 }
 
-// The words of layer 0 under word j of layer 1, of which m names those that can change; w is that word. Answers the word after.
+// The words of layer 0 under word j of layer 1, of which m names those that can change; w is that word. Answers the word after. The last
+// group may be short.
 fn leaves(store: &mut [u64], other: &[u64], n: usize, j: usize, w: u64, m: u64, op: u64) -> u64
     requires { ⌜ Ask (now store) (now other) n 0 j ⌝ }
     ensures { λ r. ⌜ Level n op (now (store .entry)) (now (other .entry)) 0 j w m (now (store .exit)) r 0 ⌝ }
 {
-    let a = least(store::end(n, 1) + j * 64, store.len());
-    let e = least(a + 64, store.len());
-    groups::group(&mut store[a..e], &other[a..e], w, m, op)
+    let a = store::end(n, 1) + j * 64;
+    if a + 64 <= store.len() {
+        return groups::group(&mut store[a..a + 64], &other[a..a + 64], w, m, op);
+    }
+    let e = store.len();
+    let b = least(a, e);
+    groups::one_by_one(&mut store[b..e], &other[b..e], w, m, op)
 }
 
 // All that stands under word j of layer k, above 0, of which m names what can change; w is that word. Answers the word after. The groups
@@ -69,7 +74,7 @@ fn below(
         let z = under(store, other, n, k, c, x, y, op);
         store::put(&mut store[a..e], c, z);
         over = util::with_bit(over, t, z != 0);
-        left = util::with_bit(left, t, false);
+        left = lowest::drop_lowest(left);
     }
     over
 }

@@ -8,7 +8,7 @@ use borrow.Fn.PlainCycle.{Measures, is, falls, and}
 use lib.Count.{trailingZeros, trailing-le}
 use lib.ListN.{length}
 use Rattle.util.proofs.Places.{Lowest, lowest}
-use Rattle.groups.proofs.Loops.{less-left}
+use Rattle.groups.proofs.Loops.{taken-off, less-left}
 use Rattle.merging.specs.Tree.{Ask, Level}
 use Rattle.merging.proofs.Steps.{top-is, level-start, level-end, small-ask, ask-child, inside, ordered, near, inside-both, level-turn, ask-zero, level-zero}
 use Rattle.merging.proofs.below.Reads as below
@@ -22,6 +22,7 @@ use Rattle.merging.proofs.leaves.Reads as leaves-reads
 use Rattle.store.proofs.end.Reads as end-reads
 use Rattle.store.proofs.get.Reads as get-reads
 use Rattle.store.proofs.put.Reads as put-reads
+use Rattle.lowest.proofs.drop_lowest.Reads as drop-lowest-reads
 use Rattle.util.proofs.with_bit.Reads as with-bit-reads
 use Rattle.merging.proofs.+below+under.{statement}
 use Rattle.merging.proofs.+below+under.Tie.{close}
@@ -66,6 +67,8 @@ B t = (
   put-reads.Learnt,
   with-bit-reads.Asked,
   with-bit-reads.Learnt,
+  drop-lowest-reads.Asked,
+  drop-lowest-reads.Learnt,
 )
 
 abbrev D : ℕ → under-lts.Claims
@@ -209,13 +212,13 @@ put-requires t c κs = search needs
 with-bit-requires : (t : ℕ) → lts.Need-with-bit-requires (B t) (At t) below.Post Inv-loop μ-loop
 with-bit-requires t c κs = search needs
 
-with-bit-requires-2 : (t : ℕ) → lts.Need-with-bit-requires-2 (B t) (At t) below.Post Inv-loop μ-loop
-with-bit-requires-2 t c κs = search needs
+drop-lowest-requires : (t : ℕ) → lts.Need-drop-lowest-requires (B t) (At t) below.Post Inv-loop μ-loop
+drop-lowest-requires t c κs = search needs
 
 loop-less : (t : ℕ) → lts.Need-loop-less (B t) (At t) below.Post Inv-loop μ-loop
 loop-less t c =
     let i = c .before .before .before .before .before .before .before .before .before .before .before .before .before .before .before in
-    less-left (low t i .inside) (low t i .on) (c .with-bit2 .ensures)
+    less-left (low t i .inside) (low t i .on) (taken-off (i .before .loop .inv .few) (low t i .inside) (low t i .on) (c .drop-lowest .ensures))
 
 loop-again : (t : ℕ) → lts.Need-loop-again (B t) (At t) below.Post Inv-loop μ-loop
 loop-again t c =
@@ -229,7 +232,7 @@ loop-again t c =
     let e = h .before in
     level-turn (ask t i) (h .loop .inv) (e .before .end .ensures) (e .end2 .ensures) (λ z. omega (arith, above t i)) (low t i .inside) (low t i .on) refl
     (x .get .ensures) (v .moving .ensures) (r .under .ensures) (p .put .ensures) (w .with-bit .ensures)
-    (c .with-bit2 .ensures)
+    (taken-off (h .loop .inv .few) (low t i .inside) (low t i .on) (c .drop-lowest .ensures))
 
 same-length : (t : ℕ) → lts.Need-same-length (B t) (At t) below.Post Inv-loop μ-loop
 same-length t c = c .before .loop .inv .long
@@ -265,7 +268,7 @@ pub +below+under-spec : {M : Type 1} → statement M
     (part-put-end t)
     (put-requires t)
     (with-bit-requires t)
-    (with-bit-requires-2 t)
+    (drop-lowest-requires t)
     (loop-less t)
     (loop-again t)
     (same-length t)

@@ -1,99 +1,143 @@
 -- `merging::leaves` meets its contract: the group is lent as a part of both stores. Assumes nothing.
+use Prim.Native.Nat.{ℕ, _+_, _*_}
 use native.Mathlib.Omega.{arith}
-use Rattle.merging.proofs.Leaf.{Spot, low-high, level-leaves}
-use Rattle.merging.proofs.Steps.{small-ask, start-small, spot-here, same-long}
 use borrow.Author.Needs.{needs}
+use Rattle.merging.proofs.Leaf.{level-leaves, level-short}
+use Rattle.merging.proofs.Steps.{small-ask, start-small, spot-here, same-long}
 use Rattle.merging.proofs.leaves.Statement.{statement}
 use Rattle.merging.proofs.leaves.Tie as tie
 
 end-requires : tie.Need-end-requires
 end-requires c κs = search needs
 
-mul-least : tie.Need-mul-least
-mul-least c = omega (arith, small-ask (c .before .before .before .pre))
+mul-a : tie.Need-mul-a
+mul-a c = search needs
 
-add-least : tie.Need-add-least
-add-least c = let s = c .before .before .before in omega (arith, small-ask (s .pre), start-small (s .pre) (c .end .ensures))
+add-a : tie.Need-add-a
+add-a c = let s = c .before .before .before in omega (arith, small-ask (s .pre), start-small (s .pre) (c .end .ensures))
 
-least-requires : tie.Need-least-requires
-least-requires c κs = search needs
+add-if1 : tie.Need-add-if1
+add-if1 c = let s = c .before .before .before in omega (arith, small-ask (s .pre), start-small (s .pre) (c .end .ensures))
 
-add-least-2 : tie.Need-add-least-2
-add-least-2 c =
-    let s = c .before .before .before .before in
-    omega (arith, small-ask (s .pre), start-small (s .pre) (c .before .end .ensures), c .least .ensures)
-
-least-requires-2 : tie.Need-least-requires-2
-least-requires-2 c κs = search needs
-
--- where the group stands
-spot : (c : tie.After-least2) → let a = c .before .before .before .before .before .args in Spot (a .n) (a .store .now) (a .j) (c .before .least .result) (c .least2 .result)
-spot c =
-    let l = c .before in
-    let e = l .before in
-    spot-here (e .before .before .before .pre) (e .end .ensures) (l .least .ensures) (c .least2 .ensures)
+add-group : tie.Need-add-group
+add-group c = search needs
 
 mul-group : tie.Need-mul-group
-mul-group c = let s = c .before .before .before .before .before in omega (arith, low-high (s .pre .first) (spot c), same-long (s .pre))
+mul-group c = search needs
 
 sub-group : tie.Need-sub-group
-sub-group c = let s = c .before .before .before .before .before in omega (arith, low-high (s .pre .first) (spot c), same-long (s .pre))
+sub-group c = search needs
 
 part-group-start : tie.Need-part-group-start
-part-group-start c = let s = c .before .before .before .before .before in omega (arith, low-high (s .pre .first) (spot c), same-long (s .pre))
+part-group-start c = search needs
 
 part-group-end : tie.Need-part-group-end
-part-group-end c = let s = c .before .before .before .before .before in omega (arith, low-high (s .pre .first) (spot c), same-long (s .pre))
+part-group-end c = search needs
+
+add-group-2 : tie.Need-add-group-2
+add-group-2 c = search needs
 
 mul-group-2 : tie.Need-mul-group-2
-mul-group-2 c = let s = c .before .before .before .before .before .before in omega (arith, low-high (s .pre .first) (spot (c .before)), same-long (s .pre))
+mul-group-2 c = search needs
 
 sub-group-2 : tie.Need-sub-group-2
-sub-group-2 c = let s = c .before .before .before .before .before .before in omega (arith, low-high (s .pre .first) (spot (c .before)), same-long (s .pre))
+sub-group-2 c = search needs
 
 part-group-start-2 : tie.Need-part-group-start-2
-part-group-start-2 c = let s = c .before .before .before .before .before .before in omega (arith, low-high (s .pre .first) (spot (c .before)), same-long (s .pre))
+part-group-start-2 c = search needs
 
 part-group-end-2 : tie.Need-part-group-end-2
-part-group-end-2 c = let s = c .before .before .before .before .before .before in omega (arith, low-high (s .pre .first) (spot (c .before)), same-long (s .pre))
+part-group-end-2 c = search needs
 
 group-requires : tie.Need-group-requires
 group-requires c κs = search needs
 
 same-length : tie.Need-same-length
-same-length c =
-    let g = c .before .before in
-    let l = g .before .before .before in
-    let s = l .before .before .before .before .before in
-    level-leaves (s .pre .first) (spot l) (s .args .op) (s .args .other .now) (s .args .w) (s .args .m) (s .fits .m .fits) (same-long (s .pre))
-    (g .group .ensures .0) (g .group .ensures .1) .long
+same-length c = search needs
 
 returns : tie.Need-returns
 returns c =
     let g = c .before .before in
+    let f = g .before .before .before in
+    let d = f .before in
+    let s = d .before .before .before in
+    let a : ℕ = d .end .result + s .args .j * 64 in
+    level-leaves {a = a} {e = a + 64} (s .pre .first) (spot-here (s .pre) (d .end .ensures) (omega (arith, f .if1 .taken)) (omega (arith, f .if1 .taken))) (s .args .op) (s .args .other .now) (s .args .w)
+    (s .args .m) (s .fits .m .fits) (same-long (s .pre)) (g .group .ensures .0) (g .group .ensures .1)
+
+least-requires : tie.Need-least-requires
+least-requires c κs = search needs
+
+mul-one-by-one : tie.Need-mul-one-by-one
+mul-one-by-one c = search needs
+
+sub-one-by-one : tie.Need-sub-one-by-one
+sub-one-by-one c = search needs
+
+part-one-by-one-start : tie.Need-part-one-by-one-start
+part-one-by-one-start c = search needs
+
+part-one-by-one-end : tie.Need-part-one-by-one-end
+part-one-by-one-end c = search needs
+
+mul-one-by-one-2 : tie.Need-mul-one-by-one-2
+mul-one-by-one-2 c = search needs
+
+sub-one-by-one-2 : tie.Need-sub-one-by-one-2
+sub-one-by-one-2 c = search needs
+
+part-one-by-one-start-2 : tie.Need-part-one-by-one-start-2
+part-one-by-one-start-2 c = search needs
+
+part-one-by-one-end-2 : tie.Need-part-one-by-one-end-2
+part-one-by-one-end-2 c = search needs
+
+one-by-one-requires : tie.Need-one-by-one-requires
+one-by-one-requires c κs = search needs
+
+same-length-2 : tie.Need-same-length-2
+same-length-2 c = search needs
+
+returns-2 : tie.Need-returns-2
+returns-2 c =
+    let g = c .before .before in
     let l = g .before .before .before in
-    let s = l .before .before .before .before .before in
-    level-leaves (s .pre .first) (spot l) (s .args .op) (s .args .other .now) (s .args .w) (s .args .m) (s .fits .m .fits) (same-long (s .pre))
-    (g .group .ensures .0) (g .group .ensures .1)
+    let f = l .before in
+    let d = f .before in
+    let s = d .before .before .before in
+    level-short (s .pre .first) (spot-here (s .pre) (d .end .ensures) (l .least .ensures) (omega (arith, f .if1 .left, l .least .ensures))) (s .args .op) (s .args .other .now) (s .args .w)
+    (s .args .m) (s .fits .m .fits) (same-long (s .pre)) (omega (arith, f .if1 .left, l .least .ensures)) (g .one-by-one .ensures .0) (g .one-by-one .ensures .1)
 
 pub leaves-spec : {M : Type 1} → statement M
 leaves-spec =
     tie.close
     (tie.spec
     end-requires
-    mul-least
-    add-least
-    least-requires
-    add-least-2
-    least-requires-2
+    mul-a
+    add-a
+    add-if1
+    add-group
     mul-group
     sub-group
     part-group-start
     part-group-end
+    add-group-2
     mul-group-2
     sub-group-2
     part-group-start-2
     part-group-end-2
     group-requires
     same-length
-    returns)
+    returns
+    least-requires
+    mul-one-by-one
+    sub-one-by-one
+    part-one-by-one-start
+    part-one-by-one-end
+    mul-one-by-one-2
+    sub-one-by-one-2
+    part-one-by-one-start-2
+    part-one-by-one-end-2
+    one-by-one-requires
+    same-length-2
+    returns-2)
