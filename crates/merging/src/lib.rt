@@ -19,12 +19,12 @@ fn leaves(store: &mut [u64], other: &[u64], n: usize, j: usize, w: u64, m: u64, 
     ensures { λ r. ⌜ Level n op (now (store .entry)) (now (other .entry)) 0 j w m (now (store .exit)) r 0 ⌝ }
 {
     let a = store::end(n, 1) + j * 64;
-    if a + 64 <= store.len() {
-        return groups::group(&mut store[a..a + 64], &other[a..a + 64], w, m, op);
+    let e = a + 64;
+    if e <= store.len() {
+        return groups::group(&mut store[a..e], &other[a..e], w, m, op);
     }
-    let e = store.len();
-    let b = least(a, e);
-    groups::one_by_one(&mut store[b..e], &other[b..e], w, m, op)
+    let b = least(a, store.len());
+    groups::one_by_one(&mut store[b..], &other[b..], w, m, op)
 }
 
 // All that stands under word j of layer k, above 0, of which m names what can change; w is that word. Answers the word after. The groups

@@ -1,7 +1,12 @@
 -- `merging::leaves` meets its contract: the group is lent as a part of both stores. Assumes nothing.
-use Prim.Native.Nat.{ℕ, _+_, _*_}
+use mathlib.Core.List.{List}
+use mathlib.Core.Path.{_≡_, subst}
+use Prim.Native.Nat.{ℕ, _+_, _-_, _*_}
 use native.Mathlib.Omega.{arith}
 use borrow.Author.Needs.{needs}
+use borrow.Rule.Slice.PartMut.{midOf}
+use lib.ListN.{length}
+use Rattle.groups.specs.Group.{named, marked}
 use Rattle.merging.proofs.Leaf.{level-leaves, level-short}
 use Rattle.merging.proofs.Steps.{small-ask, start-small, spot-here, same-long}
 use Rattle.merging.proofs.leaves.Statement.{statement}
@@ -11,43 +16,37 @@ end-requires : tie.Need-end-requires
 end-requires c κs = search needs
 
 mul-a : tie.Need-mul-a
-mul-a c = search needs
+mul-a c = omega arith
 
 add-a : tie.Need-add-a
 add-a c = let s = c .before .before .before in omega (arith, small-ask (s .pre), start-small (s .pre) (c .end .ensures))
 
-add-if1 : tie.Need-add-if1
-add-if1 c = let s = c .before .before .before in omega (arith, small-ask (s .pre), start-small (s .pre) (c .end .ensures))
-
-add-group : tie.Need-add-group
-add-group c = search needs
+add-e : tie.Need-add-e
+add-e c = let s = c .before .before .before in omega (arith, small-ask (s .pre), start-small (s .pre) (c .end .ensures))
 
 mul-group : tie.Need-mul-group
-mul-group c = search needs
+mul-group c = omega arith
 
 sub-group : tie.Need-sub-group
-sub-group c = search needs
+sub-group c = omega arith
 
 part-group-start : tie.Need-part-group-start
-part-group-start c = search needs
+part-group-start c = omega arith
 
 part-group-end : tie.Need-part-group-end
-part-group-end c = search needs
-
-add-group-2 : tie.Need-add-group-2
-add-group-2 c = search needs
+part-group-end c = omega arith
 
 mul-group-2 : tie.Need-mul-group-2
-mul-group-2 c = search needs
+mul-group-2 c = omega arith
 
 sub-group-2 : tie.Need-sub-group-2
-sub-group-2 c = search needs
+sub-group-2 c = omega arith
 
 part-group-start-2 : tie.Need-part-group-start-2
-part-group-start-2 c = search needs
+part-group-start-2 c = omega arith
 
 part-group-end-2 : tie.Need-part-group-end-2
-part-group-end-2 c = search needs
+part-group-end-2 c = omega arith
 
 group-requires : tie.Need-group-requires
 group-requires c κs = search needs
@@ -69,28 +68,28 @@ least-requires : tie.Need-least-requires
 least-requires c κs = search needs
 
 mul-one-by-one : tie.Need-mul-one-by-one
-mul-one-by-one c = search needs
+mul-one-by-one c = omega arith
 
 sub-one-by-one : tie.Need-sub-one-by-one
-sub-one-by-one c = search needs
+sub-one-by-one c = omega arith
 
 part-one-by-one-start : tie.Need-part-one-by-one-start
-part-one-by-one-start c = search needs
+part-one-by-one-start c = omega arith
 
 part-one-by-one-end : tie.Need-part-one-by-one-end
-part-one-by-one-end c = search needs
+part-one-by-one-end c = omega arith
 
 mul-one-by-one-2 : tie.Need-mul-one-by-one-2
-mul-one-by-one-2 c = search needs
+mul-one-by-one-2 c = omega arith
 
 sub-one-by-one-2 : tie.Need-sub-one-by-one-2
-sub-one-by-one-2 c = search needs
+sub-one-by-one-2 c = omega arith
 
 part-one-by-one-start-2 : tie.Need-part-one-by-one-start-2
-part-one-by-one-start-2 c = search needs
+part-one-by-one-start-2 c = omega arith
 
 part-one-by-one-end-2 : tie.Need-part-one-by-one-end-2
-part-one-by-one-end-2 c = search needs
+part-one-by-one-end-2 c = omega arith
 
 one-by-one-requires : tie.Need-one-by-one-requires
 one-by-one-requires c κs = search needs
@@ -105,8 +104,13 @@ returns-2 c =
     let f = l .before in
     let d = f .before in
     let s = d .before .before .before in
-    level-short (s .pre .first) (spot-here (s .pre) (d .end .ensures) (l .least .ensures) (omega (arith, f .if1 .left, l .least .ensures))) (s .args .op) (s .args .other .now) (s .args .w)
-    (s .args .m) (s .fits .m .fits) (same-long (s .pre)) (omega (arith, f .if1 .left, l .least .ensures)) (g .one-by-one .ensures .0) (g .one-by-one .ensures .1)
+    let a = s .args in
+    let b : ℕ = l .least .result in
+    let q = same-long (s .pre) in
+    let after : ℕ → List ℕ = λ k. named (a .op) (a .m) 0 (midOf b (length (a .store .now) - b) (a .store .now)) (midOf b (k - b) (a .other .now)) in
+    level-short (s .pre .first) (spot-here (s .pre) (d .end .ensures) (l .least .ensures) (omega (arith, f .if1 .left, l .least .ensures))) (a .op) (a .other .now) (a .w)
+    (a .m) (s .fits .m .fits) q (omega (arith, f .if1 .left, l .least .ensures)) (subst (λ (k : ℕ). g .one-by-one .last .0 ≡ after k) q (g .one-by-one .ensures .0))
+    (subst (λ (k : ℕ). g .one-by-one .result ≡ marked (a .m) (after k) (a .w)) q (g .one-by-one .ensures .1))
 
 pub leaves-spec : {M : Type 1} → statement M
 leaves-spec =
@@ -115,13 +119,11 @@ leaves-spec =
     end-requires
     mul-a
     add-a
-    add-if1
-    add-group
+    add-e
     mul-group
     sub-group
     part-group-start
     part-group-end
-    add-group-2
     mul-group-2
     sub-group-2
     part-group-start-2
