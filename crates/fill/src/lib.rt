@@ -26,7 +26,7 @@ pub struct Batch {
 }
 
 // A batch that leaves a cursor.
-fn made(c: Cursor, reads: u64, count: usize, stop: Stop) -> Batch
+pub fn made(c: Cursor, reads: u64, count: usize, stop: Stop) -> Batch
     ensures { λ r. ⌜ r ≡ record { cursor = c; reads = reads; count = count; stop = stop } ⌝ }
 {
     Batch {

@@ -4,7 +4,6 @@ ghost use lib.ListN.{length};
 ghost use Rattle.util.specs.Outcome.{Settled};
 ghost use Rattle.iter.specs.Calls.{Fine};
 ghost use Rattle.iter.specs.Steps.{Sinks};
-ghost use Rattle.fill.specs.declared.Stop.the-variants.{Refused};
 ghost use Rattle.fill.specs.Fill.{fillFrom, batchPaper, filled};
 ghost use Rattle.codes.specs.Tree.{four};
 ghost use Rattle.machine.specs.Machine.{machineWord};
@@ -13,18 +12,6 @@ use fill::Batch;
 use fill::Stop;
 use iter::Cursor;
 use iter::Sunk;
-
-// A refused fill hands its cursor back.
-fn refused(c: Cursor, no: u32) -> Batch
-    ensures { λ r. ⌜ r ≡ record { cursor = c; reads = 0; count = 0; stop = Refused no } ⌝ }
-{
-    Batch {
-        cursor: c,
-        reads: 0,
-        count: 0,
-        stop: Stop::Refused(no),
-    }
-}
 
 // Words are read until none is wanted or the budget is spent. A member at hand is met here, so that it costs no call.
 fn sink(
@@ -102,14 +89,14 @@ pub fn fill(
 {
     let no = codes::check(codes, s0, s1, s2, s3);
     if no != 0 {
-        return refused(c, no);
+        return fill::made(c, 0, 0, Stop::Refused(no));
     }
     if pairs::is_pair(codes) {
         return named_fill::fill(c, codes, s0, s1, s2, s3, budget, out);
     }
     let bad = c.refusal(1);
     if bad != 0 {
-        return refused(c, bad);
+        return fill::made(c, 0, 0, Stop::Refused(bad));
     }
     let n = store::get(s0, 0) as usize;
     fill_in(c, codes, n, s0, s1, s2, s3, budget, out)

@@ -97,18 +97,6 @@ fn sink(
     Sunk { cursor: c, reads }
 }
 
-// A batch that leaves a cursor.
-fn made(c: Cursor, reads: u64, count: usize, stop: Stop) -> Batch
-    ensures { λ r. ⌜ r ≡ record { cursor = c; reads = reads; count = count; stop = stop } ⌝ }
-{
-    Batch {
-        cursor: c,
-        reads,
-        count,
-        stop,
-    }
-}
-
 // Fill over three layers of each store, where nothing is refused.
 fn fill_in(
     from: Cursor,
@@ -139,7 +127,7 @@ fn fill_in(
         c = c.hand();
         count += 1;
     }
-    made(c, spent, count, Stop::Full)
+    fill::made(c, spent, count, Stop::Full)
 }
 
 // As many members of two joined stores as `out` holds or the budget allows. A slice that is no store has no members.
@@ -148,7 +136,7 @@ pub fn fill(c: Cursor, code: u8, a: &[u64], b: &[u64], budget: u64, out: &mut [u
 {
     let no = c.refusal(1);
     if no != 0 {
-        return made(c, 0, 0, Stop::Refused(no));
+        return fill::made(c, 0, 0, Stop::Refused(no));
     }
     fill_in(
         c,

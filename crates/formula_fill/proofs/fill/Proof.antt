@@ -18,8 +18,8 @@ begin c = c .before .before .before .before .before .before .before
 check-requires : tie.Need-check-requires
 check-requires c κs = search needs
 
-refused-requires : tie.Need-refused-requires
-refused-requires c κs = search needs
+made-requires : tie.Need-made-requires
+made-requires c κs = search needs
 
 returns : tie.Need-returns
 returns c =
@@ -28,7 +28,7 @@ returns c =
     let a = begin k .args in
     fill-refused (a .s0 .now) (a .s1 .now) (a .s2 .now) (a .s3 .now) (a .codes .now) (a .c)
     (refusal-formula (a .s0 .now) (a .s1 .now) (a .s2 .now) (a .s3 .now) (a .codes .now) (k .check .ensures) (a .c) (t .if1 .taken))
-    (a .budget) (a .out .now) (t .if1 .taken) (c .refused .ensures)
+    (a .budget) (a .out .now) (t .if1 .taken) (c .made .ensures)
 
 is-pair-requires : tie.Need-is-pair-requires
 is-pair-requires c κs = search needs
@@ -63,14 +63,14 @@ judged c =
     let a = begin (e .before) .args in
     refusal-cursor (a .s0 .now) (a .s1 .now) (a .s2 .now) (a .s3 .now) (a .codes .now) (e .before .check .ensures) (a .c) (e .if1 .left) (c .refusal .ensures)
 
-refused-requires-2 : tie.Need-refused-requires-2
-refused-requires-2 c κs = search needs
+made-requires-2 : tie.Need-made-requires-2
+made-requires-2 c κs = search needs
 
 returns-3 : tie.Need-returns-3
 returns-3 c =
     let t = c .before in
     let a = begin (t .before .before .before .before .before) .args in
-    fill-refused (a .s0 .now) (a .s1 .now) (a .s2 .now) (a .s3 .now) (a .codes .now) (a .c) (judged (t .before)) (a .budget) (a .out .now) (t .if3 .taken) (c .refused2 .ensures)
+    fill-refused (a .s0 .now) (a .s1 .now) (a .s2 .now) (a .s3 .now) (a .codes .now) (a .c) (judged (t .before)) (a .budget) (a .out .now) (t .if3 .taken) (c .made2 .ensures)
 
 get-requires : tie.Need-get-requires
 get-requires c κs = search needs
@@ -97,14 +97,14 @@ fill-spec =
     tie.close
     (tie.spec
     check-requires
-    refused-requires
+    made-requires
     returns
     is-pair-requires
     fill-requires
     same-length
     returns-2
     refusal-requires
-    refused-requires-2
+    made-requires-2
     returns-3
     get-requires
     fill-in-requires
