@@ -1,5 +1,5 @@
-//! What the crate answers to the lines of a script. The reading of a line is written from docs/REPLAY.md and shares nothing with
-//! replay's.
+//! What the crate answers to the lines of a script. The reading of a line is written from docs/COMPARISON.md and shares nothing with
+//! oracle/port.c.
 use crate::stores::Stores;
 use hibitset_util::{average_ones, offsets, Row};
 use std::io::{self, Write};
@@ -31,7 +31,7 @@ pub fn all(script: &[u8], out: &mut impl Write) -> io::Result<()> {
 }
 
 /// A line's word and numbers, or nothing where the line is malformed.
-pub fn command(line: &[u8]) -> Option<(&str, Vec<u64>)> {
+fn command(line: &[u8]) -> Option<(&str, Vec<u64>)> {
     if line.len() >= TOO_LONG {
         return None;
     }

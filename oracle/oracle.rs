@@ -1,7 +1,7 @@
-//! The Rust crate's side of the comparison with the proved program replay.
+//! The Rust crate's side of the comparison; oracle/port.c is the port's.
 //!
 //! `oracle script NAME` writes a script to standard output; `oracle answer` reads one from standard input and prints what the
-//! unchanged crate answers, in the form of docs/REPLAY.md. `oracle/compare` builds it and runs both sides.
+//! unchanged crate answers, in the form of docs/COMPARISON.md. `oracle/compare` builds it and runs both sides.
 mod answers;
 mod merge_scripts;
 mod map_scripts;

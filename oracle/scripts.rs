@@ -1,5 +1,4 @@
 //! The scripts, each the same at every run.
-use crate::answers::command;
 use std::io::{self, Write};
 
 /// A generator of words (splitmix64).
@@ -15,10 +14,6 @@ impl Random {
 
     pub fn below(&mut self, n: usize) -> usize {
         (self.word() % n as u64) as usize
-    }
-
-    fn pick<'a>(&mut self, list: &[&'a str]) -> &'a str {
-        list[self.below(list.len())]
     }
 
     /// A word with a bit in 2 ^ k set, or all but so many.
@@ -77,83 +72,88 @@ pub fn row(out: &mut impl Write) -> io::Result<()> {
     Ok(())
 }
 
-/// Lines at which a reading could go wrong, most of them malformed.
-const ODD: &[&str] = &[
-    "", " ", "  ", "a", "average", "average ", " average 3", "average  3", "average 3 ", "average\t3", "average 3\r", "\r",
-    "average3", "average,3", "average 3 4", "average 3,4", "average +3", "average -3", "average 3.0", "average 0x3", "average 1e3",
-    "average 3a", "average a", "average ٣", "average 18446744073709551615", "average 18446744073709551616",
-    "average 18446744073709551625", "average 28446744073709551615", "average 99999999999999999999", "average 184467440737095516150",
-    "average 340282366920938463463374607431768211456", "average 00000000000000000000000000000000003", "Average 3", "AVERAGE 3",
-    "averagE 3", "averages 3", "averagee 3", "verage 3", "averageaverage 3", "abcdefgh", "abcdefghi", "abcdefgh 1", "abcdefghi 1",
-    "row", "row 1", "row 1 2 3", "row  1 2", "row 1  2", "row 1 2 ", "row 4294967295 3", "row 4294967296 3",
-    "row 18446744073709551615 3", "row 12345 6", "offset 12345", "offset 12345 6", "offset 4294967296 6", "mask 12345 6",
-    "mask 4294967296 6", "mask 12345 six", "offsets", "offsets 12345", "offsets 4294967295", "offsets 4294967296",
-    "offsets 12345 6", "offset s 12345", "öffset 1 2", "average 3\0", "\0", "average\u{a0}3", "`verage 3", "{verage 3", "average /",
-    "average :", "average 3/", "average 3:", "? 1", "none", "0", "3 average",
+/// A well-formed line of each command.
+const COMMANDS: &[(&str, &[u64])] = &[
+    ("average", &[22]),
+    ("row", &[12345, 6]),
+    ("offset", &[12345, 6]),
+    ("mask", &[12345, 6]),
+    ("offsets", &[12345]),
+    ("lend", &[4, 600, 6]),
+    ("poke", &[5, 2, 3]),
+    ("peek", &[0, 1]),
+    ("dump", &[0]),
+    ("digest", &[0]),
+    ("open", &[1, 65]),
+    ("clear", &[1]),
+    ("add", &[0, 64]),
+    ("remove", &[0, 64]),
+    ("contains", &[0, 64]),
+    ("list", &[0, 3, 64, 5]),
+    ("isempty", &[0]),
+    ("equal", &[0, 1]),
+    ("superset", &[0, 1]),
+    ("or", &[0, 1]),
+    ("and", &[0, 1]),
+    ("xor", &[0, 1]),
+    ("word", &[0, 1, 0]),
+    ("layer", &[0, 1]),
+    ("sound", &[0]),
+    ("rebuild", &[0]),
+    ("free", &[0]),
+    ("start", &[2, 0]),
+    ("next", &[2, 0, 4]),
+    ("fill", &[2, 0, 9, 3]),
+    ("first", &[0, 4]),
+    ("write", &[5, 0]),
+    ("read", &[5, 1]),
+    ("fempty", &[6, 0, 1, 16, 16]),
+    ("fcontain", &[6, 0, 1, 16, 16, 64]),
+    ("fword", &[6, 0, 1, 16, 16, 0, 1]),
+    ("fstart", &[6, 0, 1, 16, 16, 2]),
+    ("fnext", &[6, 0, 1, 16, 16, 2, 4]),
+    ("ffill", &[6, 0, 1, 16, 16, 2, 9, 3]),
 ];
 
-/// `bad`: the odd lines, lines of a wrong number of numbers, lines about as long as a line may be, and well-formed lines in which bytes
-/// were changed. The last line lacks its newline.
+/// Numbers of slots, ids, layers and budgets, around where each of them ends.
+const NUMBERS: &[u64] =
+    &[0, 1, 2, 3, 4, 5, 6, 15, 16, 17, 63, 64, 65, 66, 255, 256, 4_294_967_295, 4_294_967_296, 4_294_967_360, u64::MAX - 1, u64::MAX];
+
+/// `bad`: every command with too few and too many numbers, with each number replaced, ids and capacities above 32 bits and slots past the
+/// last one among them, and random lines of these numbers. Slots 0 and 1 are stores of 65 ids, 2 a cursor, 3 places, 5 a map, 6 codes. The
+/// crate has no answer to a shift past 31, so none is asked for. The last line lacks its newline.
 pub fn bad(out: &mut impl Write) -> io::Result<()> {
-    for line in ODD {
-        writeln!(out, "{line}")?;
-    }
-    for count in 0..80 {
-        writeln!(out, "offsets{}", " 7".repeat(count))?;
-    }
-    for length in 4_080..4_112 {
-        writeln!(out, "average {}22", "0".repeat(length - "average 22".len()))?;
-        writeln!(out, "{}", "a".repeat(length))?;
-        writeln!(out, "offsets 1{}", " ".repeat(length))?;
-        writeln!(out, "average 7")?;
-    }
-    for length in [65_534, 65_535, 65_536, 65_537, 200_000] {
-        writeln!(out, "average {}22", "0".repeat(length))?;
-        writeln!(out, "average 34")?;
+    writeln!(out, "lend 0 0 6\nlend 1 100 6\nlend 2 200 7\nlend 3 300 5\nlend 5 400 100\nlend 6 500 3\nopen 0 65\nopen 1 65")?;
+    writeln!(out, "poke 6 0 0\npoke 6 1 1\npoke 6 2 17\nlist 0 3 64\nlist 1 0 3\nstart 2 0")?;
+    for (word, numbers) in COMMANDS {
+        for count in (0..numbers.len() + 4).chain([63, 64, 65, 70]) {
+            let extended: Vec<u64> = numbers.iter().copied().chain(std::iter::repeat(7)).take(count).collect();
+            asked(out, word, &extended)?;
+        }
+        for place in 0..numbers.len() {
+            for &n in NUMBERS {
+                let mut replaced = numbers.to_vec();
+                replaced[place] = n;
+                asked(out, word, &replaced)?;
+            }
+        }
     }
     let mut r = Random(3);
-    for _ in 0..200_000 {
-        out.write_all(&changed(&mut r))?;
-        out.write_all(b"\n")?;
+    for _ in 0..20_000 {
+        let (word, numbers) = COMMANDS[r.below(COMMANDS.len())];
+        let count = (numbers.len() + r.below(3)).saturating_sub(r.below(2));
+        let random: Vec<u64> = (0..count).map(|_| NUMBERS[r.below(NUMBERS.len())]).collect();
+        asked(out, word, &random)?;
     }
+    writeln!(out, "\nadd\n add 0 1\nadd  0 1\nadd 0 1 \nadd 0\t1\nadd 0 -1\nadd 0 0x1\nAdd 0 1\nadds 0 1\nabcdefghi 0\nadd 0 18446744073709551616")?;
     write!(out, "average 22")
 }
 
-/// A line with up to two changes. It asks for no shift past 31, where the crate has no answer.
-fn changed(r: &mut Random) -> Vec<u8> {
-    loop {
-        let mut line = well_formed(r).into_bytes();
-        for _ in 0..r.below(3) {
-            change(r, &mut line);
-        }
-        if !matches!(command(&line), Some((_, numbers)) if numbers.len() == 2 && numbers[1] > 31) {
-            return line;
-        }
+/// A line, and what slots 0 and 1 are after it.
+fn asked(out: &mut impl Write, word: &str, numbers: &[u64]) -> io::Result<()> {
+    if matches!((word, numbers), ("row" | "offset" | "mask", &[_, shift]) if shift > 31) {
+        return Ok(());
     }
-}
-
-fn well_formed(r: &mut Random) -> String {
-    let n = r.word() >> r.below(64);
-    match r.pick(&["average", "row", "offset", "mask", "offsets"]) {
-        "average" => format!("average {n}"),
-        "offsets" => format!("offsets {}", n >> 32),
-        word => format!("{word} {} {}", n >> 32, r.below(32)),
-    }
-}
-
-/// A byte is put in, taken out or replaced, often by one that has a meaning. No line is ended.
-fn change(r: &mut Random, line: &mut Vec<u8>) {
-    let told = b" 0189az?-\t";
-    let byte = match r.below(2) {
-        0 => told[r.below(told.len())],
-        _ => r.word() as u8,
-    };
-    let byte = if byte == b'\n' { b'\r' } else { byte };
-    let at = r.below(line.len() + 1);
-    match r.below(3) {
-        0 => line.insert(at, byte),
-        _ if at == line.len() => (),
-        1 => line[at] = byte,
-        _ => drop(line.remove(at)),
-    }
+    let text: String = numbers.iter().map(|n| format!(" {n}")).collect();
+    writeln!(out, "{word}{text}\ndigest 0\ndigest 1")
 }

@@ -1,16 +1,14 @@
 -- An answer's numbers as a C caller gets them. Document 01: "Each returns its number and zeros elsewhere".
 use mathlib.Core.List.{List, [], _∷_}
 use Prim.Native.Nat.{ℕ}
-use Rattle.said.specs.Numbers.{saidOf}
-use Rattle.said.specs.declared.Said.{Said}
 use Rattle.abi.specs.declared.Answer.{Answer}
 use Rattle.abi.specs.declared.Bit.{Bit}
 
-abbrev pub toldOf : Said → Answer
-toldOf s = record { refusal = s .a; value = s .b }
-
+-- the refusal's number alone, or 0 and the value
 abbrev pub answerOf : List ℕ → Answer
-answerOf l = toldOf (saidOf l)
+answerOf [] = record { refusal = 0; value = 0 }
+answerOf (n ∷ []) = record { refusal = n; value = 0 }
+answerOf (n ∷ v ∷ l) = record { refusal = n; value = v }
 
 -- a bit, or none, off the paper's numbers
 abbrev pub bitOf : List ℕ → Bit

@@ -16,7 +16,7 @@ pub extern "C" fn fen_formula_contains(
 ) -> Answer
     ensures { λ r. ⌜ r ≡ answerOf (containsOf (four (now (s0 .entry)) (now (s1 .entry)) (now (s2 .entry)) (now (s3 .entry))) (now (codes .entry)) id .numbers) ⌝ }
 {
-    abi::told(said::asked(formula::contains(codes, s0, s1, s2, s3, id)))
+    abi::asked(formula::contains(codes, s0, s1, s2, s3, id))
 }
 
 #[no_mangle]
@@ -29,7 +29,7 @@ pub extern "C" fn fen_formula_is_empty(
 ) -> Answer
     ensures { λ r. ⌜ r ≡ answerOf (isEmptyOf (four (now (s0 .entry)) (now (s1 .entry)) (now (s2 .entry)) (now (s3 .entry))) (now (codes .entry)) .numbers) ⌝ }
 {
-    abi::told(said::asked(formula::is_empty(codes, s0, s1, s2, s3)))
+    abi::asked(formula::is_empty(codes, s0, s1, s2, s3))
 }
 
 #[no_mangle]
@@ -44,5 +44,5 @@ pub extern "C" fn fen_formula_get_from_layer(
 ) -> Answer
     ensures { λ r. ⌜ r ≡ answerOf (layerWordOf (four (now (s0 .entry)) (now (s1 .entry)) (now (s2 .entry)) (now (s3 .entry))) (now (codes .entry)) layer index .numbers) ⌝ }
 {
-    abi::told(said::read(formula::get_from_layer(codes, s0, s1, s2, s3, layer, index)))
+    abi::read(formula::get_from_layer(codes, s0, s1, s2, s3, layer, index))
 }

@@ -31,7 +31,7 @@ fn part(store: &[u64], k: usize) -> Part
 pub extern "C" fn fen_get_from_layer(store: &[u64], layer: usize, index: usize) -> Answer
     ensures { λ r. ⌜ r ≡ answerOf (wordOf (now (store .entry)) layer index .numbers) ⌝ }
 {
-    abi::told(said::read(layers::get_from_layer(store, layer, index)))
+    abi::read(layers::get_from_layer(store, layer, index))
 }
 
 #[no_mangle]

@@ -13,21 +13,21 @@ use average::Half;
 pub extern "C" fn fen_equal(store: &[u64], other: &[u64]) -> Answer
     ensures { λ r. ⌜ r ≡ answerOf (equalOf (now (store .entry)) (now (other .entry)) .numbers) ⌝ }
 {
-    abi::told(said::asked(same::equal(store, other)))
+    abi::asked(same::equal(store, other))
 }
 
 #[no_mangle]
 pub extern "C" fn fen_contains_set(store: &[u64], other: &[u64]) -> Answer
     ensures { λ r. ⌜ r ≡ answerOf (containsSetOf (now (store .entry)) (now (other .entry)) .numbers) ⌝ }
 {
-    abi::told(said::asked(superset::contains_set(store, other)))
+    abi::asked(superset::contains_set(store, other))
 }
 
 #[no_mangle]
 pub extern "C" fn fen_is_sound(store: &[u64]) -> Answer
     ensures { λ r. ⌜ r ≡ answerOf (isSoundOf (now (store .entry)) .numbers) ⌝ }
 {
-    abi::told(said::asked(soundness::is_sound(store)))
+    abi::asked(soundness::is_sound(store))
 }
 
 #[no_mangle]

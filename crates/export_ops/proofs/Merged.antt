@@ -4,17 +4,14 @@ use mathlib.Core.Path.{_≡_, sym, ap, _∙_, subst}
 use Prim.Native.Nat.{ℕ}
 use Rattle.store.specs.Answer.{didPaper}
 use Rattle.store.specs.declared.Did.{Did}
-use Rattle.said.specs.Numbers.{saidOf}
-use Rattle.said.specs.declared.Said.{Said}
 use Rattle.merging.specs.Calls.{assignOf, Assigned}
-use Rattle.abi.specs.Abi.{answerOf, toldOf}
+use Rattle.abi.specs.Abi.{answerOf}
 use Rattle.abi.specs.declared.Answer.{Answer}
-use Rattle.abi.proofs.Tells.{tells-numbers}
 use Rattle.export_ops.specs.Calls.{Leaves}
 
-pub merged : {op : ℕ} {s t u : List ℕ} {r : Did} {n : Said} {a : Answer} → Assigned op s t r u → n ≡ saidOf (didPaper .numbers r) → a ≡ toldOf n
+pub merged : {op : ℕ} {s t u : List ℕ} {r : Did} {a : Answer} → Assigned op s t r u → a ≡ answerOf (didPaper .numbers r)
     → (a ≡ answerOf (assignOf op s t .numbers)) × Leaves op s t u
-merged {op} {s} {t} {u} {r} m e f = (
-  tells-numbers didPaper {r = r} (m .answer) e f,
+merged {op} {s} {t} {u} {r} m e = (
+  e ∙ ap answerOf (m .answer),
   subst (λ (x : Did). Assigned op s t x u) (sym (didPaper .same r) ∙ ap (didPaper .answer) (m .answer)) m,
 )

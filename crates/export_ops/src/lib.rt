@@ -10,7 +10,7 @@ pub extern "C" fn fen_bitor_assign(store: &mut [u64], other: &[u64]) -> Answer
     ensures { λ r. ⌜ r ≡ answerOf (assignOf 17 (now (store .entry)) (now (other .entry)) .numbers) ⌝ }
     ensures { λ r. ⌜ Leaves 17 (now (store .entry)) (now (other .entry)) (now (store .exit)) ⌝ }
 {
-    abi::told(said::did(ops::bitor_assign(store, other)))
+    abi::did(ops::bitor_assign(store, other))
 }
 
 #[no_mangle]
@@ -18,7 +18,7 @@ pub extern "C" fn fen_bitand_assign(store: &mut [u64], other: &[u64]) -> Answer
     ensures { λ r. ⌜ r ≡ answerOf (assignOf 16 (now (store .entry)) (now (other .entry)) .numbers) ⌝ }
     ensures { λ r. ⌜ Leaves 16 (now (store .entry)) (now (other .entry)) (now (store .exit)) ⌝ }
 {
-    abi::told(said::did(ops::bitand_assign(store, other)))
+    abi::did(ops::bitand_assign(store, other))
 }
 
 #[no_mangle]
@@ -26,5 +26,5 @@ pub extern "C" fn fen_bitxor_assign(store: &mut [u64], other: &[u64]) -> Answer
     ensures { λ r. ⌜ r ≡ answerOf (assignOf 18 (now (store .entry)) (now (other .entry)) .numbers) ⌝ }
     ensures { λ r. ⌜ Leaves 18 (now (store .entry)) (now (other .entry)) (now (store .exit)) ⌝ }
 {
-    abi::told(said::did(ops::bitxor_assign(store, other)))
+    abi::did(ops::bitxor_assign(store, other))
 }

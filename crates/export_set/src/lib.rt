@@ -9,7 +9,7 @@ use abi::Answer;
 pub extern "C" fn fen_contains(store: &[u64], id: u32) -> Answer
     ensures { λ r. ⌜ r ≡ answerOf (containsOf (now (store .entry)) id .numbers) ⌝ }
 {
-    abi::told(said::asked(bitset::contains(store, id)))
+    abi::asked(bitset::contains(store, id))
 }
 
 #[no_mangle]
@@ -17,7 +17,7 @@ pub extern "C" fn fen_add(store: &mut [u64], id: u32) -> Answer
     ensures { λ r. ⌜ r ≡ answerOf (addOf (now (store .entry)) id .numbers) ⌝ }
     ensures { λ r. ⌜ now (store .exit) ≡ addOf (now (store .entry)) id .lent ⌝ }
 {
-    abi::told(said::asked(bitset::add(store, id)))
+    abi::asked(bitset::add(store, id))
 }
 
 #[no_mangle]
@@ -25,7 +25,7 @@ pub extern "C" fn fen_remove(store: &mut [u64], id: u32) -> Answer
     ensures { λ r. ⌜ r ≡ answerOf (removeOf (now (store .entry)) id .numbers) ⌝ }
     ensures { λ r. ⌜ now (store .exit) ≡ removeOf (now (store .entry)) id .lent ⌝ }
 {
-    abi::told(said::asked(bitset::remove(store, id)))
+    abi::asked(bitset::remove(store, id))
 }
 
 #[no_mangle]
@@ -33,12 +33,12 @@ pub extern "C" fn fen_add_list(store: &mut [u64], ids: &[u32]) -> Answer
     ensures { λ r. ⌜ r ≡ answerOf (addListOf (now (store .entry)) (now (ids .entry)) .numbers) ⌝ }
     ensures { λ r. ⌜ now (store .exit) ≡ addListOf (now (store .entry)) (now (ids .entry)) .lent ⌝ }
 {
-    abi::told(said::did(bitset::add_list(store, ids)))
+    abi::did(bitset::add_list(store, ids))
 }
 
 #[no_mangle]
 pub extern "C" fn fen_first_free(store: &[u64]) -> Answer
     ensures { λ r. ⌜ r ≡ answerOf (firstFreeOf (now (store .entry)) .numbers) ⌝ }
 {
-    abi::told(said::found(free::first_free(store)))
+    abi::found(free::first_free(store))
 }

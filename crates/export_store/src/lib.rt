@@ -10,7 +10,7 @@ pub extern "C" fn fen_open(store: &mut [u64], n: u32) -> Answer
     ensures { λ r. ⌜ r ≡ answerOf (openOf (now (store .entry)) n .numbers) ⌝ }
     ensures { λ r. ⌜ now (store .exit) ≡ openOf (now (store .entry)) n .lent ⌝ }
 {
-    abi::told(said::did(whole::open(store, n)))
+    abi::did(whole::open(store, n))
 }
 
 #[no_mangle]
@@ -18,14 +18,14 @@ pub extern "C" fn fen_clear(store: &mut [u64]) -> Answer
     ensures { λ r. ⌜ r ≡ answerOf (clearOf (now (store .entry)) .numbers) ⌝ }
     ensures { λ r. ⌜ now (store .exit) ≡ clearOf (now (store .entry)) .lent ⌝ }
 {
-    abi::told(said::did(whole::clear(store)))
+    abi::did(whole::clear(store))
 }
 
 #[no_mangle]
 pub extern "C" fn fen_is_empty(store: &[u64]) -> Answer
     ensures { λ r. ⌜ r ≡ answerOf (isEmptyOf (now (store .entry)) .numbers) ⌝ }
 {
-    abi::told(said::asked(whole::is_empty(store)))
+    abi::asked(whole::is_empty(store))
 }
 
 #[no_mangle]
@@ -33,5 +33,5 @@ pub extern "C" fn fen_rebuild(store: &mut [u64]) -> Answer
     ensures { λ r. ⌜ r ≡ answerOf (rebuildOf (now (store .entry)) .numbers) ⌝ }
     ensures { λ r. ⌜ now (store .exit) ≡ rebuildOf (now (store .entry)) .lent ⌝ }
 {
-    abi::told(said::did(summary::rebuild(store)))
+    abi::did(summary::rebuild(store))
 }

@@ -13,6 +13,6 @@ pub fn reply(store: &mut [u64], buf: &mut [u8], at: usize, c: Command, number: u
         Command::Remove(i) => printed::put_reply(buf, at, b'r', i, bitset::remove(store, i)),
         Command::Contains(i) => printed::put_reply(buf, at, b'c', i, members::contains(store, i)),
         Command::List => listed::put_members(buf, at, store),
-        Command::Unknown => rows::put_unknown(buf, at, number),
+        Command::Unknown => text::put_unknown(buf, at, number),
     }
 }

@@ -11,7 +11,8 @@ pub struct Step {
     pub value: u64,
 }
 
-fn moved(a: Next) -> Step
+// What a step answers, in two numbers.
+pub fn moved(a: Next) -> Step
     ensures { λ r. ⌜ r ≡ stepOf a ⌝ }
 {
     match a {

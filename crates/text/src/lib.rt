@@ -1,4 +1,5 @@
 // What the programs write: output gathered in a lent buffer, and decimal numbers.
+ghost use mathlib.Core.List.{_++_, _∷_, []};
 ghost use mathlib.Core.Path.{_≡_};
 ghost use Rattle.text.specs.Out.{held, putOf, putAllOf, decimalOf};
 use libc::STDOUT_FILENO;
@@ -47,4 +48,21 @@ pub fn put_number(buf: &mut [u8], at: usize, n: u64) -> usize
     let mut digits = [0u8; 20];
     let k = io::decimal(n, &mut digits);
     put_all(buf, at, &digits[..k])
+}
+
+// A number and what stands behind it.
+fn put_number_and(buf: &mut [u8], at: usize, n: u64, b: u8) -> usize
+    ensures { λ r. ⌜ held (now (buf .exit)) r ≡ putAllOf (now (buf .entry)) at (decimalOf n ++ (b ∷ [])) ⌝ }
+{
+    let a = put_number(buf, at, n);
+    put(buf, a, b)
+}
+
+// `?` and the number of a line that says nothing.
+pub fn put_unknown(buf: &mut [u8], at: usize, line: u64) -> usize
+    ensures { λ r. ⌜ held (now (buf .exit)) r ≡ putAllOf (now (buf .entry)) at (63 ∷ 32 ∷ (decimalOf line ++ (10 ∷ []))) ⌝ }
+{
+    let a = put(buf, at, b'?');
+    let b = put(buf, a, b' ');
+    put_number_and(buf, b, line, b'\n')
 }

@@ -11,12 +11,9 @@ get-from-layer-requires c κs = search needs
 read-requires : tie.Need-read-requires
 read-requires c κs = search needs
 
-told-requires : tie.Need-told-requires
-told-requires c κs = search needs
-
 returns : tie.Need-returns
-returns c = tells readPaper (c .before .before .get-from-layer .ensures) (c .before .read .ensures) (c .told .ensures)
+returns c = tells readPaper (c .before .get-from-layer .ensures) (c .read .ensures)
 
 pub fen-get-from-layer-spec : {M : Type 1} → statement M
 fen-get-from-layer-spec =
-    tie.close (tie.spec get-from-layer-requires read-requires told-requires returns)
+    tie.close (tie.spec get-from-layer-requires read-requires returns)

@@ -11,12 +11,9 @@ contains-set-requires c κs = search needs
 asked-requires : tie.Need-asked-requires
 asked-requires c κs = search needs
 
-told-requires : tie.Need-told-requires
-told-requires c κs = search needs
-
 returns : tie.Need-returns
-returns c = tells askedPaper (c .before .before .contains-set .ensures) (c .before .asked .ensures) (c .told .ensures)
+returns c = tells askedPaper (c .before .contains-set .ensures) (c .asked .ensures)
 
 pub fen-contains-set-spec : {M : Type 1} → statement M
 fen-contains-set-spec =
-    tie.close (tie.spec contains-set-requires asked-requires told-requires returns)
+    tie.close (tie.spec contains-set-requires asked-requires returns)

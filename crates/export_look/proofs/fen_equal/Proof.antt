@@ -11,12 +11,9 @@ equal-requires c κs = search needs
 asked-requires : tie.Need-asked-requires
 asked-requires c κs = search needs
 
-told-requires : tie.Need-told-requires
-told-requires c κs = search needs
-
 returns : tie.Need-returns
-returns c = tells askedPaper (c .before .before .equal .ensures) (c .before .asked .ensures) (c .told .ensures)
+returns c = tells askedPaper (c .before .equal .ensures) (c .asked .ensures)
 
 pub fen-equal-spec : {M : Type 1} → statement M
 fen-equal-spec =
-    tie.close (tie.spec equal-requires asked-requires told-requires returns)
+    tie.close (tie.spec equal-requires asked-requires returns)

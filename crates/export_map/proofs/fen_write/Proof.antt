@@ -11,15 +11,12 @@ write-requires c κs = search needs
 wrote-requires : tie.Need-wrote-requires
 wrote-requires c κs = search needs
 
-told-requires : tie.Need-told-requires
-told-requires c κs = search needs
-
 same-length : tie.Need-same-length
 same-length c = search needs
 
 returns : tie.Need-returns
-returns c = (tells wrotePaper (c .before .before .before .before .write .ensures) (c .before .wrote .ensures) (c .told .ensures), c .before .before .before .before .write .ensures .memory)
+returns c = (tells wrotePaper (c .before .before .before .write .ensures) (c .wrote .ensures), c .before .before .before .write .ensures .memory)
 
 pub fen-write-spec : {M : Type 1} → statement M
 fen-write-spec =
-    tie.close (tie.spec write-requires wrote-requires told-requires same-length returns)
+    tie.close (tie.spec write-requires wrote-requires same-length returns)

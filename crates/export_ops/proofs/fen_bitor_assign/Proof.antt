@@ -10,15 +10,12 @@ bitor-assign-requires c κs = search needs
 did-requires : tie.Need-did-requires
 did-requires c κs = search needs
 
-told-requires : tie.Need-told-requires
-told-requires c κs = search needs
-
 same-length : tie.Need-same-length
 same-length c = search needs
 
 returns : tie.Need-returns
-returns c = merged (c .before .before .before .before .bitor-assign .ensures) (c .before .did .ensures) (c .told .ensures)
+returns c = merged (c .before .before .before .bitor-assign .ensures) (c .did .ensures)
 
 pub fen-bitor-assign-spec : {M : Type 1} → statement M
 fen-bitor-assign-spec =
-    tie.close (tie.spec bitor-assign-requires did-requires told-requires same-length returns)
+    tie.close (tie.spec bitor-assign-requires did-requires same-length returns)

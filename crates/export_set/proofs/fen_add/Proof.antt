@@ -11,14 +11,11 @@ add-requires c κs = search needs
 asked-requires : tie.Need-asked-requires
 asked-requires c κs = search needs
 
-told-requires : tie.Need-told-requires
-told-requires c κs = search needs
-
 same-length : tie.Need-same-length
 same-length c = search needs
 
 returns : tie.Need-returns
-returns c = (tells askedPaper (c .before .before .before .before .add .ensures) (c .before .asked .ensures) (c .told .ensures), c .before .before .before .before .add .ensures .memory)
+returns c = (tells askedPaper (c .before .before .before .add .ensures) (c .asked .ensures), c .before .before .before .add .ensures .memory)
 
 pub fen-add-spec : {M : Type 1} → statement M
-fen-add-spec = tie.close (tie.spec add-requires asked-requires told-requires same-length returns)
+fen-add-spec = tie.close (tie.spec add-requires asked-requires same-length returns)

@@ -11,11 +11,8 @@ contains-requires c κs = search needs
 asked-requires : tie.Need-asked-requires
 asked-requires c κs = search needs
 
-told-requires : tie.Need-told-requires
-told-requires c κs = search needs
-
 returns : tie.Need-returns
-returns c = tells askedPaper (c .before .before .contains .ensures) (c .before .asked .ensures) (c .told .ensures)
+returns c = tells askedPaper (c .before .contains .ensures) (c .asked .ensures)
 
 pub fen-contains-spec : {M : Type 1} → statement M
-fen-contains-spec = tie.close (tie.spec contains-requires asked-requires told-requires returns)
+fen-contains-spec = tie.close (tie.spec contains-requires asked-requires returns)

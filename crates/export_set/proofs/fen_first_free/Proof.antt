@@ -11,11 +11,8 @@ first-free-requires c κs = search needs
 found-requires : tie.Need-found-requires
 found-requires c κs = search needs
 
-told-requires : tie.Need-told-requires
-told-requires c κs = search needs
-
 returns : tie.Need-returns
-returns c = tells foundPaper (c .before .before .first-free .ensures) (c .before .found .ensures) (c .told .ensures)
+returns c = tells foundPaper (c .before .first-free .ensures) (c .found .ensures)
 
 pub fen-first-free-spec : {M : Type 1} → statement M
-fen-first-free-spec = tie.close (tie.spec first-free-requires found-requires told-requires returns)
+fen-first-free-spec = tie.close (tie.spec first-free-requires found-requires returns)

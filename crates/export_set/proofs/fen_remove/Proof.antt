@@ -11,15 +11,12 @@ remove-requires c κs = search needs
 asked-requires : tie.Need-asked-requires
 asked-requires c κs = search needs
 
-told-requires : tie.Need-told-requires
-told-requires c κs = search needs
-
 same-length : tie.Need-same-length
 same-length c = search needs
 
 returns : tie.Need-returns
-returns c = (tells askedPaper (c .before .before .before .before .remove .ensures) (c .before .asked .ensures) (c .told .ensures), c .before .before .before .before .remove .ensures .memory)
+returns c = (tells askedPaper (c .before .before .before .remove .ensures) (c .asked .ensures), c .before .before .before .remove .ensures .memory)
 
 pub fen-remove-spec : {M : Type 1} → statement M
 fen-remove-spec =
-    tie.close (tie.spec remove-requires asked-requires told-requires same-length returns)
+    tie.close (tie.spec remove-requires asked-requires same-length returns)

@@ -11,15 +11,12 @@ clear-requires c κs = search needs
 did-requires : tie.Need-did-requires
 did-requires c κs = search needs
 
-told-requires : tie.Need-told-requires
-told-requires c κs = search needs
-
 same-length : tie.Need-same-length
 same-length c = search needs
 
 returns : tie.Need-returns
-returns c = (tells didPaper (c .before .before .before .before .clear .ensures) (c .before .did .ensures) (c .told .ensures), c .before .before .before .before .clear .ensures .memory)
+returns c = (tells didPaper (c .before .before .before .clear .ensures) (c .did .ensures), c .before .before .before .clear .ensures .memory)
 
 pub fen-clear-spec : {M : Type 1} → statement M
 fen-clear-spec =
-    tie.close (tie.spec clear-requires did-requires told-requires same-length returns)
+    tie.close (tie.spec clear-requires did-requires same-length returns)
