@@ -4,22 +4,22 @@ use mathlib.Core.List.{[], _∷_}
 use mathlib.Core.Logic.{_≢_}
 use mathlib.Core.Path.{_≡_, refl, sym, ap, _∙_}
 use Prim.Native.Nat.{ℕ, zero, suc, _+_, _-_, _/_, _^_, _≤_, _<_}
-use native.Mathlib.Nat.{div-one}
 use native.Mathlib.Decide.{decLt, decLe, ℕ-discrete}
+use native.Mathlib.Nat.{div-one}
 use native.Mathlib.Omega.{arith}
 use borrow.Author.Tests.{eq-eqb, ne-eqb}
 use lib.Arith.{lt-one}
+use lib.Count.{ones}
 use lib.Dec.{eqb}
 use lib.Pow.{shr-lt, shr-le}
-use lib.Count.{ones}
-use Rattle.util.specs.Word.{bit, count}
 use Rattle.util.specs.Outcome.{Settled}
-use Rattle.average.specs.Average.{paper, splits, averageOf}
-use Rattle.average.specs.Search.{above}
-use Rattle.average.specs.declared.Half.the-variants.{At, Nothing}
+use Rattle.util.specs.Word.{bit, count}
 use Rattle.util.proofs.Bits.{bit-lt}
 use Rattle.util.proofs.Count.{count-ones}
 use Rattle.util.proofs.Places.{places-none, places-one}
+use Rattle.average.specs.Average.{paper, splits, averageOf}
+use Rattle.average.specs.Search.{above}
+use Rattle.average.specs.declared.Half.the-variants.{At, Nothing}
 use Rattle.average.proofs.Tally.{above-split, above-step}
 
 module _ (n : ℕ) (word : n < 2 ^ 64) where

@@ -6,9 +6,9 @@ use native.Mathlib.Nat.{mod-lt, mod-eq-of-lt, mul-assoc, add-mul, suc-mul, add-c
 use native.Mathlib.Numerals.{add-one}
 use native.Mathlib.Omega.{arith}
 use lib.Arith.{digits-div, digits-mod, digits-lt, lt-one}
-use lib.Pow.{pow-pos, pow-add, pow-mono, shr-shr, mod-pow-add, mod-mod-pow, split}
 use lib.Bits.{bitAnd, and-block, and-mask, and-zero-r, and-le-l}
 use lib.Count.{ones, ones-cat, ones-le}
+use lib.Pow.{pow-pos, pow-add, pow-mono, shr-shr, mod-pow-add, mod-mod-pow, split}
 use Rattle.average.specs.Search.{tally, above}
 
 -- ---- the count of one field

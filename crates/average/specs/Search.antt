@@ -2,8 +2,8 @@
 use mathlib.Core.Path.{_≡_}
 use Prim.Native.Nat.{ℕ, zero, suc, _+_, _-_, _*_, _/_, _%_, _^_, _≤_, _<_}
 use lib.Count.{ones}
-use Rattle.average.specs.declared.Tallies.{Tallies}
 use Rattle.average.specs.declared.Search.{Search}
+use Rattle.average.specs.declared.Tallies.{Tallies}
 
 -- the m lowest fields of k bits of n, each replaced by the number of its set bits
 unfoldable pub tally : ℕ → ℕ → ℕ → ℕ

@@ -16,20 +16,20 @@ use Rattle.store.specs.Answer.{says, does, refuses}
 use Rattle.store.specs.Build.{empty}
 use Rattle.store.specs.Layout.{maxCap, isCap, storeLen, cap}
 use Rattle.store.specs.Word.{word, put, anc, Sound, Words64}
+use Rattle.store.specs.declared.Did.{Did}
 use Rattle.store.proofs.Build.{store-empty, sound-empty}
 use Rattle.store.proofs.Geometry.{is-store, store-kept}
 use Rattle.store.proofs.Words.{word-lt}
-use Rattle.store.specs.declared.Did.{Did}
-use Rattle.whole.specs.Calls.{openOf, clearOf}
-use Rattle.members.specs.Calls.{holds}
-use Rattle.bitset.specs.Calls.{moveOf, allBelow, addAll, addListOf}
-use Rattle.bitset.specs.Edit.{edit, edits, layersOf}
-use Rattle.bitset.proofs.Edits.{length-edits, cap-edits}
-use Rattle.sets.proofs.Moves.{sound-add, sound-remove}
-use Rattle.merging.specs.Calls.{mergeable, assignOf, mergedOf, Assigned}
-use Rattle.merging.proofs.Theorems.{both-stores, store-merged, words-merged, sound-merged, leaves-merged}
-use Rattle.roundtrip.specs.Claims.{SoundStore}
-use Rattle.roundtrip.proofs.Theorems.{read-keeps}
+use Rattle.set_member.specs.Calls.{holds}
+use Rattle.set_edit.specs.Calls.{moveOf, allBelow, addAll, addListOf}
+use Rattle.set_edit.specs.Edit.{edit, edits, layersOf}
+use Rattle.set_edit.proofs.Edits.{length-edits, cap-edits}
+use Rattle.set_laws.proofs.Moves.{sound-add, sound-remove}
+use Rattle.set_whole.specs.Calls.{openOf, clearOf}
+use Rattle.ops_merge.specs.Calls.{mergeable, assignOf, mergedOf, Assigned}
+use Rattle.ops_merge.proofs.Theorems.{both-stores, store-merged, words-merged, sound-merged, leaves-merged}
+use Rattle.map_laws.specs.Claims.{SoundStore}
+use Rattle.map_laws.proofs.Theorems.{read-keeps}
 use Rattle.claims.specs.Reached.{Reached}
 use Rattle.claims.specs.Reached.Reached.{opened, added, removed, listed, cleared, merged, read}
 

@@ -14,13 +14,13 @@ use Rattle.store.specs.Build.{build}
 use Rattle.store.specs.Word.{members}
 use Rattle.store.specs.declared.Did.{Did}
 use Rattle.store.proofs.Geometry.{is-store}
-use Rattle.chunkmap.specs.Answer.{wrotePaper}
-use Rattle.chunkmap.specs.Calls.{writeOf}
-use Rattle.chunkmap.specs.Map.{wordsIn, mapOf, mapLen}
-use Rattle.chunkmap.specs.declared.Wrote.the-variants.{Length}
-use Rattle.mapread.specs.Calls.{readOf}
-use Rattle.roundtrip.specs.Claims.{SoundStore}
-use Rattle.roundtrip.proofs.Theorems.{written-length, written-read, written-read-part, round-trip-members, round-trip-same}
+use Rattle.map_write.specs.Answer.{wrotePaper}
+use Rattle.map_write.specs.Calls.{writeOf}
+use Rattle.map_write.specs.Map.{wordsIn, mapOf, mapLen}
+use Rattle.map_write.specs.declared.Wrote.the-variants.{Length}
+use Rattle.map_read.specs.Calls.{readOf}
+use Rattle.map_laws.specs.Claims.{SoundStore}
+use Rattle.map_laws.proofs.Theorems.{written-length, written-read, written-read-part, round-trip-members, round-trip-same}
 use Rattle.claims.specs.Again.{Again}
 use Rattle.claims.specs.Reached.{Reached}
 use Rattle.claims.specs.Reached.Reached.{read}

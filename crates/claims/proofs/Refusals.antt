@@ -9,6 +9,7 @@ use lib.Dec.{leb, ltb, eqb}
 use lib.ListN.{length, getD}
 use denote.Ref.{now}
 use Rattle.util.specs.Outcome.{Outcome, Paper, Settled}
+use Rattle.util.proofs.Same.{both}
 use Rattle.store.specs.Answer.{askedPaper, didPaper, foundPaper, readPaper, refuses}
 use Rattle.store.specs.Layout.{top, isCap, storeLen, cap, isStore}
 use Rattle.store.specs.declared.Asked.the-variants.{Refused as AskedRefused}
@@ -16,42 +17,39 @@ use Rattle.store.specs.declared.Did.{Did}
 use Rattle.store.specs.declared.Did.the-variants.{Refused as DidRefused}
 use Rattle.store.specs.declared.Found.the-variants.{Refused as FoundRefused}
 use Rattle.store.specs.declared.Read.the-variants.{Refused as ReadRefused}
-use Rattle.layers.specs.Calls.{wordOf, layerPart}
-use Rattle.members.specs.Calls.{containsOf}
-use Rattle.bitset.specs.Calls.{moveOf, addOf, removeOf, allBelow, addListOf}
-use Rattle.whole.specs.Calls.{openOf, clearOf, isEmptyOf}
-use Rattle.summary.specs.Calls.{rebuildOf}
-use Rattle.soundness.specs.Calls.{isSoundOf}
-use Rattle.free.specs.Calls.{freeFrom, firstOf, firstFreeOf}
-use Rattle.same.specs.Calls.{equalOf}
-use Rattle.superset.specs.Calls.{containsSetOf}
-use Rattle.iter.specs.declared.Cursor.{Cursor}
-use Rattle.iter.specs.declared.Next.{Next}
-use Rattle.iter.specs.declared.Next.the-variants.{Member, Paused, End, Refused as NextRefused}
-use Rattle.iter.specs.declared.Step.{Step}
-use Rattle.iter.specs.Calls.{stepPaper, written, refused, fits, startIn, nextIn}
-use Rattle.iter.specs.Walk.{Kind, kind, byKind, paused, more, descend, next as walkNext}
-use Rattle.iter.specs.Walk.Kind.{gives as givesOne, reads, done}
-use Rattle.starts.specs.Calls.{startedOf}
-use Rattle.reader.specs.Readers.{told}
-use Rattle.fill.specs.declared.Stop.the-variants.{Refused as StopRefused}
-use Rattle.fill.specs.Fill.{Filled, batchPaper, batch, filled, stopped, goOn, fillFrom, fillIn}
-use Rattle.codes.specs.Tree.{nth}
-use Rattle.codes.specs.Codes.{isFormula}
-use Rattle.codes.specs.Check.{besideOf, sooner, storesOf, checkOf}
-use Rattle.formula.specs.Calls.{capOf, layerWordOf, containsOf as formulaContainsOf, isEmptyOf as formulaIsEmptyOf}
-use Rattle.formula_iter.specs.Calls.{refusalIn, startIn as formulaStartIn, nextIn as formulaNextIn}
+use Rattle.set_member.specs.Calls.{containsOf}
+use Rattle.set_edit.specs.Calls.{moveOf, addOf, removeOf, allBelow, addListOf}
+use Rattle.set_whole.specs.Calls.{openOf, clearOf, isEmptyOf, equalOf}
+use Rattle.set_layers.specs.Calls.{wordOf, layerPart}
+use Rattle.set_free.specs.Calls.{freeFrom, firstOf, firstFreeOf}
+use Rattle.set_superset.specs.Calls.{containsSetOf}
+use Rattle.summary.specs.Calls.{rebuildOf, isSoundOf}
+use Rattle.walk.specs.Calls.{stepPaper, written, refused, fits, startIn, nextIn}
+use Rattle.walk.specs.Walk.{Kind, kind, byKind, paused, more, descend, next as walkNext}
+use Rattle.walk.specs.Walk.Kind.{gives as givesOne, reads, done}
+use Rattle.walk.specs.declared.Cursor.{Cursor}
+use Rattle.walk.specs.declared.Next.{Next}
+use Rattle.walk.specs.declared.Next.the-variants.{Member, Paused, End, Refused as NextRefused}
+use Rattle.walk.specs.declared.Step.{Step}
+use Rattle.walk_fill.specs.Fill.{Filled, batchPaper, batch, filled, stopped, goOn, fillFrom, fillIn}
+use Rattle.walk_fill.specs.declared.Stop.the-variants.{Refused as StopRefused}
+use Rattle.walk_batches.specs.Calls.{startedOf}
+use Rattle.walk_reader.specs.Readers.{told}
+use Rattle.formula_codes.specs.Check.{besideOf, sooner, storesOf, checkOf}
+use Rattle.formula_codes.specs.Codes.{isFormula}
+use Rattle.formula_codes.specs.Tree.{nth}
+use Rattle.formula_ask.specs.Calls.{capOf, layerWordOf, containsOf as formulaContainsOf, isEmptyOf as formulaIsEmptyOf}
+use Rattle.formula_walk.specs.Calls.{refusalIn, startIn as formulaStartIn, nextIn as formulaNextIn}
 use Rattle.formula_fill.specs.Calls.{fillIn as formulaFillIn}
-use Rattle.merging.specs.Calls.{mergeable, assignOf, Assigned}
-use Rattle.chunkmap.specs.Answer.{wrotePaper}
-use Rattle.chunkmap.specs.Calls.{writeOf}
-use Rattle.chunkmap.specs.Map.{wordsIn, mapLen}
-use Rattle.chunkmap.specs.declared.Wrote.the-variants.{Refused as WroteRefused}
-use Rattle.mapread.specs.Calls.{readOf}
-use Rattle.mapread.specs.Judge.{capIn, countIn, usedIn, table, headOk, good, total, judgeOf}
-use Rattle.util.proofs.Same.{both}
-use Rattle.claims.specs.Calls.Call.{«open», add, remove, contains, addList, isEmpty, clear, containsSet, equal, getFromLayer, layerAsSlice, averageOnes, firstFree, isSound, rebuild, bitorAssign, bitandAssign, bitxorAssign, start, next, fill, containsF, isEmptyF, getFromLayerF, startF, nextF, fillF, write, read, iterR, nextR, firstR}
+use Rattle.ops_merge.specs.Calls.{mergeable, assignOf, Assigned}
+use Rattle.map_write.specs.Answer.{wrotePaper}
+use Rattle.map_write.specs.Calls.{writeOf}
+use Rattle.map_write.specs.Map.{wordsIn, mapLen}
+use Rattle.map_write.specs.declared.Wrote.the-variants.{Refused as WroteRefused}
+use Rattle.map_read.specs.Calls.{readOf}
+use Rattle.map_read.specs.Judge.{capIn, countIn, usedIn, table, headOk, good, total, judgeOf}
 use Rattle.claims.specs.Calls.{Answer, Memory, Meets, refusal, lastRefusal, Refuses, Refused, Call, promiseOf, partPaper, partOf, noBatch, toldPaper, toldRefused, toldOf, moved}
+use Rattle.claims.specs.Calls.Call.{«open», add, remove, contains, addList, isEmpty, clear, containsSet, equal, getFromLayer, layerAsSlice, averageOnes, firstFree, isSound, rebuild, bitorAssign, bitandAssign, bitxorAssign, start, next, fill, containsF, isEmptyF, getFromLayerF, startF, nextF, fillF, write, read, iterR, nextR, firstR}
 
 -- what holds of both cases holds of the one chosen
 by-cond : {A : Type 0} (P : A → Type 0) (b : Bool) {x y : A} → P x → P y → P (cond b x y)

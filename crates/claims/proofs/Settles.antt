@@ -12,19 +12,19 @@ use Rattle.util.proofs.Same.{both}
 use Rattle.store.specs.Layout.{cap, isStore}
 use Rattle.store.specs.Word.{Sound}
 use Rattle.store.specs.declared.Did.the-variants.{Done}
-use Rattle.merging.specs.Calls.{mergeable, assignOf}
-use Rattle.merging.proofs.Theorems.{assigned-answers, assigned-settles}
-use Rattle.layers.specs.Calls.{layerPart}
-use Rattle.iter.specs.declared.Cursor.{Cursor}
-use Rattle.iter.specs.Calls.{nextIn}
-use Rattle.starts.specs.Calls.{startedOf}
-use Rattle.reader.specs.Readers.{told}
-use Rattle.reader.specs.declared.BitIter.{BitIter}
-use Rattle.reader.specs.declared.Told.{Told}
-use Rattle.claims.specs.Reached.{Reached}
+use Rattle.set_layers.specs.Calls.{layerPart}
+use Rattle.walk.specs.Calls.{nextIn}
+use Rattle.walk.specs.declared.Cursor.{Cursor}
+use Rattle.walk_batches.specs.Calls.{startedOf}
+use Rattle.walk_reader.specs.Readers.{told}
+use Rattle.walk_reader.specs.declared.BitIter.{BitIter}
+use Rattle.walk_reader.specs.declared.Told.{Told}
+use Rattle.ops_merge.specs.Calls.{mergeable, assignOf}
+use Rattle.ops_merge.proofs.Theorems.{assigned-answers, assigned-settles}
 use Rattle.claims.specs.Calls.{Promise, Answer, Memory, Meets, Whole, Alike, Call, promiseOf, toldPaper, Moves}
-use Rattle.claims.specs.Calls.Promise.{fixes, tells, merges, makes}
 use Rattle.claims.specs.Calls.Call.{layerAsSlice, nextR, firstR}
+use Rattle.claims.specs.Calls.Promise.{fixes, tells, merges, makes}
+use Rattle.claims.specs.Reached.{Reached}
 use Rattle.claims.proofs.Histories.{reached-fine}
 
 -- readers of one store at one cursor are one

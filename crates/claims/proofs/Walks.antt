@@ -8,17 +8,17 @@ use native.Mathlib.Omega.{arith}
 use lib.ListN.{length, List·getD-eq-default}
 use Rattle.store.specs.Layout.{top, cap}
 use Rattle.store.specs.Word.{Words64}
-use Rattle.iter.specs.declared.Cursor.{Cursor}
-use Rattle.demand.specs.Calls.{Ask, Some, AllStopped}
-use Rattle.demand.specs.Under.{allIds, allReads}
-use Rattle.demand.specs.Walks.{Spaced}
-use Rattle.codes.specs.Tree.{four, nth}
-use Rattle.formula.specs.Calls.{wordsOf}
-use Rattle.formula_iter.specs.Calls.{startIn}
-use Rattle.algebra.specs.Sides.{Sounds, UnionCodes}
-use Rattle.algebra.specs.Walks.{nextOver, callOver, walkOver, readsOf, Walked}
-use Rattle.algebra.proofs.Answers.{sounds}
-use Rattle.algebra.proofs.Calls.{formula-kept, formula-walked, formula-over, formula-spaced, and-reads-left, and-reads-right}
+use Rattle.walk.specs.declared.Cursor.{Cursor}
+use Rattle.walk_laws.specs.Calls.{Ask, Some, AllStopped}
+use Rattle.walk_laws.specs.Under.{allIds, allReads}
+use Rattle.walk_laws.specs.Walks.{Spaced}
+use Rattle.formula_codes.specs.Tree.{four, nth}
+use Rattle.formula_ask.specs.Calls.{wordsOf}
+use Rattle.formula_walk.specs.Calls.{startIn}
+use Rattle.formula_laws.specs.Sides.{Sounds, UnionCodes}
+use Rattle.formula_laws.specs.Walks.{nextOver, callOver, walkOver, readsOf, Walked}
+use Rattle.formula_laws.proofs.Answers.{sounds}
+use Rattle.formula_laws.proofs.Calls.{formula-kept, formula-walked, formula-over, formula-spaced, and-reads-left, and-reads-right}
 use Rattle.claims.specs.Lent.{Lent}
 use Rattle.claims.proofs.Histories.{reached-fine}
 

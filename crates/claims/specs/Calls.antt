@@ -5,6 +5,7 @@ use Prim.Native.Nat.{ℕ, _≤_}
 use lib.ListN.{length, getD}
 use denote.Ref.{RefT, now}
 use Rattle.util.specs.Outcome.{Outcome, Paper, Settled}
+use Rattle.average.specs.Average.{averageOf, paper as halfPaper}
 use Rattle.store.specs.Answer.{askedPaper, didPaper, foundPaper, readPaper}
 use Rattle.store.specs.Layout.{cap}
 use Rattle.store.specs.declared.Asked.the-variants.{Refused as AskedRefused}
@@ -12,35 +13,32 @@ use Rattle.store.specs.declared.Did.{Did}
 use Rattle.store.specs.declared.Did.the-variants.{Refused as DidRefused}
 use Rattle.store.specs.declared.Found.the-variants.{Refused as FoundRefused}
 use Rattle.store.specs.declared.Read.the-variants.{Refused as ReadRefused}
-use Rattle.average.specs.Average.{averageOf, paper as halfPaper}
-use Rattle.layers.specs.Calls.{wordOf, layerPart}
-use Rattle.members.specs.Calls.{containsOf}
-use Rattle.bitset.specs.Calls.{addOf, removeOf, addListOf}
-use Rattle.whole.specs.Calls.{openOf, clearOf, isEmptyOf}
-use Rattle.summary.specs.Calls.{rebuildOf}
-use Rattle.soundness.specs.Calls.{isSoundOf}
-use Rattle.free.specs.Calls.{firstFreeOf}
-use Rattle.same.specs.Calls.{equalOf}
-use Rattle.superset.specs.Calls.{containsSetOf}
-use Rattle.iter.specs.declared.Cursor.{Cursor}
-use Rattle.iter.specs.declared.Step.{Step}
-use Rattle.iter.specs.Calls.{stepPaper, startOf, nextIn, nextOf, refused}
-use Rattle.iter.specs.Walk.{startAt}
-use Rattle.starts.specs.Calls.{startedOf}
-use Rattle.reader.specs.Readers.{told}
-use Rattle.reader.specs.declared.BitIter.{BitIter}
-use Rattle.reader.specs.declared.Told.{Told}
-use Rattle.fill.specs.declared.Batch.{Batch}
-use Rattle.fill.specs.declared.Stop.the-variants.{Refused as StopRefused}
-use Rattle.fill.specs.Fill.{batchPaper, batch, stopped, fillOf}
-use Rattle.formula.specs.Calls.{layerWordOf, containsOf as formulaContainsOf, isEmptyOf as formulaIsEmptyOf}
-use Rattle.formula_iter.specs.Calls.{startOf as formulaStartOf, nextOf as formulaNextOf}
+use Rattle.set_member.specs.Calls.{containsOf}
+use Rattle.set_edit.specs.Calls.{addOf, removeOf, addListOf}
+use Rattle.set_whole.specs.Calls.{openOf, clearOf, isEmptyOf, equalOf}
+use Rattle.set_layers.specs.Calls.{wordOf, layerPart}
+use Rattle.set_free.specs.Calls.{firstFreeOf}
+use Rattle.set_superset.specs.Calls.{containsSetOf}
+use Rattle.summary.specs.Calls.{rebuildOf, isSoundOf}
+use Rattle.walk.specs.Calls.{stepPaper, startOf, nextIn, nextOf, refused}
+use Rattle.walk.specs.Walk.{startAt}
+use Rattle.walk.specs.declared.Cursor.{Cursor}
+use Rattle.walk.specs.declared.Step.{Step}
+use Rattle.walk_fill.specs.Fill.{batchPaper, batch, stopped, fillOf}
+use Rattle.walk_fill.specs.declared.Batch.{Batch}
+use Rattle.walk_fill.specs.declared.Stop.the-variants.{Refused as StopRefused}
+use Rattle.walk_batches.specs.Calls.{startedOf}
+use Rattle.walk_reader.specs.Readers.{told}
+use Rattle.walk_reader.specs.declared.BitIter.{BitIter}
+use Rattle.walk_reader.specs.declared.Told.{Told}
+use Rattle.formula_ask.specs.Calls.{layerWordOf, containsOf as formulaContainsOf, isEmptyOf as formulaIsEmptyOf}
+use Rattle.formula_walk.specs.Calls.{startOf as formulaStartOf, nextOf as formulaNextOf}
 use Rattle.formula_fill.specs.Calls.{fillOf as formulaFillOf}
-use Rattle.merging.specs.Calls.{BothSound, Assigned}
-use Rattle.chunkmap.specs.Answer.{wrotePaper}
-use Rattle.chunkmap.specs.Calls.{writeOf}
-use Rattle.chunkmap.specs.declared.Wrote.the-variants.{Refused as WroteRefused}
-use Rattle.mapread.specs.Calls.{readOf}
+use Rattle.ops_merge.specs.Calls.{BothSound, Assigned}
+use Rattle.map_write.specs.Answer.{wrotePaper}
+use Rattle.map_write.specs.Calls.{writeOf}
+use Rattle.map_write.specs.declared.Wrote.the-variants.{Refused as WroteRefused}
+use Rattle.map_read.specs.Calls.{readOf}
 
 -- ---- promises
 

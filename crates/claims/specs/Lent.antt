@@ -6,8 +6,8 @@ use mathlib.Core.Path.{_≡_}
 use Prim.Native.Nat.{ℕ}
 use lib.ListN.{length}
 use Rattle.store.specs.Layout.{cap}
-use Rattle.codes.specs.Tree.{nth}
-use Rattle.codes.specs.Check.{checkOf}
+use Rattle.formula_codes.specs.Check.{checkOf}
+use Rattle.formula_codes.specs.Tree.{nth}
 use Rattle.claims.specs.Reached.{Reached}
 
 -- the codes are accepted over four slices, of which those that are lent were reached

@@ -6,10 +6,10 @@ use Prim.Native.Nat.{ℕ, _≤_}
 use lib.ListN.{length}
 use Rattle.store.specs.Layout.{maxCap, storeLen}
 use Rattle.store.specs.declared.Did.{Did}
-use Rattle.whole.specs.Calls.{openOf, clearOf}
-use Rattle.bitset.specs.Calls.{addOf, removeOf, addListOf}
-use Rattle.merging.specs.Calls.{Assigned}
-use Rattle.mapread.specs.Calls.{readOf}
+use Rattle.set_edit.specs.Calls.{addOf, removeOf, addListOf}
+use Rattle.set_whole.specs.Calls.{openOf, clearOf}
+use Rattle.ops_merge.specs.Calls.{Assigned}
+use Rattle.map_read.specs.Calls.{readOf}
 
 pub data Reached : ℕ → List ℕ → Type 0 where
   opened : {N : ℕ} (s : List ℕ) → 1 ≤ N → N ≤ maxCap → length s ≡ storeLen N → Reached N (openOf s N .lent)

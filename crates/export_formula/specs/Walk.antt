@@ -1,9 +1,9 @@
 -- The start of a walk over a formula as a C caller has it, over the four slices ss, the codes cs and the ten words l.
 use mathlib.Core.List.{List}
 use Prim.Native.Nat.{ℕ}
-use Rattle.iter.specs.declared.Step.{Step}
-use Rattle.words.specs.Ten.{cursorOf}
-use Rattle.formula_iter.specs.Calls.{startIn}
+use Rattle.walk.specs.declared.Step.{Step}
+use Rattle.formula_walk.specs.Calls.{startIn}
+use Rattle.export_cursor.specs.Ten.{cursorOf}
 
 abbrev pub startedOf : List (List ℕ) → List ℕ → List ℕ → Step
 startedOf ss cs l = startIn ss cs (cursorOf l)

@@ -2,11 +2,11 @@
 use mathlib.Core.List.{List}
 use Prim.Native.Nat.{ℕ}
 use lib.ListN.{length}
-use Rattle.iter.specs.declared.Step.{Step}
-use Rattle.fill.specs.Fill.{Filled}
-use Rattle.words.specs.Ten.{cursorOf}
-use Rattle.formula_iter.specs.Calls.{nextIn}
+use Rattle.walk.specs.declared.Step.{Step}
+use Rattle.walk_fill.specs.Fill.{Filled}
+use Rattle.formula_walk.specs.Calls.{nextIn}
 use Rattle.formula_fill.specs.Calls.{fillIn}
+use Rattle.export_cursor.specs.Ten.{cursorOf}
 
 abbrev pub steppedOf : List (List ℕ) → List ℕ → List ℕ → ℕ → Step
 steppedOf ss cs l b = nextIn ss cs (cursorOf l) b

@@ -7,8 +7,8 @@ use native.Mathlib.Omega.{arith}
 use Rattle.store.specs.Layout.{top, layerLen, cap, isStore, StoreOf, endOf}
 use Rattle.store.proofs.Ends.{part}
 use Rattle.store.proofs.Geometry.{is-store, store-is, room-falls}
-use Rattle.layers.specs.Calls.{layerPart}
-use Rattle.abi.specs.declared.Part.{Part}
+use Rattle.set_layers.specs.Calls.{layerPart}
+use Rattle.export_answer.specs.declared.Part.{Part}
 use Rattle.export_layers.specs.Parts.{partOf, partWords}
 
 -- ---- the ways out of the code

@@ -5,7 +5,7 @@ use mathlib.Core.List.{List}
 use Prim.Native.Nat.{ℕ}
 use lib.ListN.{take, drop}
 use Rattle.store.specs.Layout.{layerLen, layerStart, cap, isStore}
-use Rattle.abi.specs.declared.Part.{Part}
+use Rattle.export_answer.specs.declared.Part.{Part}
 
 unfoldable pub partOf : List ℕ → ℕ → Part
 partOf s k =

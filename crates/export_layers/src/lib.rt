@@ -1,11 +1,11 @@
 // Reading the layers, for C and Rust: slices arrive as pointer and length, and a layer is told by where it stands.
 ghost use mathlib.Core.Path.{_≡_};
 ghost use Prim.Native.Nat.{_≤_};
-ghost use Rattle.layers.specs.Calls.{wordOf};
-ghost use Rattle.abi.specs.Abi.{answerOf};
+ghost use Rattle.set_layers.specs.Calls.{wordOf};
+ghost use Rattle.export_answer.specs.Abi.{answerOf};
 ghost use Rattle.export_layers.specs.Parts.{partOf};
-use abi::Answer;
-use abi::Part;
+use export_answer::Answer;
+use export_answer::Part;
 
 // Where layer k stands in its store.
 fn part(store: &[u64], k: usize) -> Part
@@ -31,7 +31,7 @@ fn part(store: &[u64], k: usize) -> Part
 pub extern "C" fn fen_get_from_layer(store: &[u64], layer: usize, index: usize) -> Answer
     ensures { λ r. ⌜ r ≡ answerOf (wordOf (now (store .entry)) layer index .numbers) ⌝ }
 {
-    abi::read(layers::get_from_layer(store, layer, index))
+    export_answer::read(set_layers::get_from_layer(store, layer, index))
 }
 
 #[no_mangle]

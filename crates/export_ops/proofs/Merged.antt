@@ -4,9 +4,9 @@ use mathlib.Core.Path.{_≡_, sym, ap, _∙_, subst}
 use Prim.Native.Nat.{ℕ}
 use Rattle.store.specs.Answer.{didPaper}
 use Rattle.store.specs.declared.Did.{Did}
-use Rattle.merging.specs.Calls.{assignOf, Assigned}
-use Rattle.abi.specs.Abi.{answerOf}
-use Rattle.abi.specs.declared.Answer.{Answer}
+use Rattle.ops_merge.specs.Calls.{assignOf, Assigned}
+use Rattle.export_answer.specs.Abi.{answerOf}
+use Rattle.export_answer.specs.declared.Answer.{Answer}
 use Rattle.export_ops.specs.Calls.{Leaves}
 
 pub merged : {op : ℕ} {s t u : List ℕ} {r : Did} {a : Answer} → Assigned op s t r u → a ≡ answerOf (didPaper .numbers r)

@@ -3,7 +3,7 @@
 use mathlib.Core.List.{List}
 use Prim.Native.Nat.{ℕ}
 use Rattle.store.specs.Answer.{didPaper}
-use Rattle.merging.specs.Calls.{assignOf, Assigned}
+use Rattle.ops_merge.specs.Calls.{assignOf, Assigned}
 
 -- the store s, with t merged into it, may be left as u
 abbrev pub Leaves : ℕ → List ℕ → List ℕ → List ℕ → Type 0

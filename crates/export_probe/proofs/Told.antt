@@ -2,12 +2,11 @@
 use mathlib.Core.Path.{_≡_, sym, ap, _∙_}
 use Prim.Native.Nat.{ℕ}
 use borrow.Author.Tests.{eq-eqb, ne-eqb}
-use Rattle.iter.specs.declared.Next.{Next}
-use Rattle.iter.specs.declared.Step.{Step as Stepped}
-use Rattle.reader.specs.declared.Told.{Told}
-use Rattle.reader.specs.Readers.{told}
-use Rattle.steps.specs.declared.Step.{Step}
-use Rattle.steps.specs.Answers.{stepOf, movedOf}
+use Rattle.walk.specs.declared.Step.{Step as Stepped}
+use Rattle.walk_reader.specs.Readers.{told}
+use Rattle.walk_reader.specs.declared.Told.{Told}
+use Rattle.export_step.specs.Answers.{stepOf, movedOf}
+use Rattle.export_step.specs.declared.Step.{Step}
 use Rattle.export_probe.specs.First.{readsLeft}
 
 abbrev kind : Step → ℕ

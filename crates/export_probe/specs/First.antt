@@ -3,10 +3,10 @@ use mathlib.Core.Bool.{cond}
 use mathlib.Core.List.{List}
 use Prim.Native.Nat.{ℕ}
 use lib.Dec.{eqb}
-use Rattle.iter.specs.declared.Step.{Step}
-use Rattle.iter.specs.Calls.{nextIn}
-use Rattle.starts.specs.Calls.{startedOf}
-use Rattle.steps.specs.Answers.{movedOf}
+use Rattle.walk.specs.Calls.{nextIn}
+use Rattle.walk.specs.declared.Step.{Step}
+use Rattle.walk_batches.specs.Calls.{startedOf}
+use Rattle.export_step.specs.Answers.{movedOf}
 
 abbrev pub firstIn : List ℕ → ℕ → Step
 firstIn s b = nextIn s (startedOf s) b

@@ -3,9 +3,9 @@
 ghost use mathlib.Core.List.{[], _∷_};
 ghost use mathlib.Core.Path.{_≡_};
 ghost use Rattle.util.specs.Row.{rowOf, offsetOf, maskOf};
-ghost use Rattle.steps.specs.Answers.{movedOf};
+ghost use Rattle.export_step.specs.Answers.{movedOf};
 ghost use Rattle.export_probe.specs.First.{firstIn, readsLeft};
-use steps::Step;
+use export_step::Step;
 
 #[no_mangle]
 pub extern "C" fn fen_probe_row(id: u32, shift: usize) -> usize
@@ -41,9 +41,9 @@ pub extern "C" fn fen_probe_first(store: &[u64], budget: u64, reads: &mut u64) -
     ensures { λ r. ⌜ r ≡ movedOf (firstIn (now (store .entry)) budget) ⌝ }
     ensures { λ r. ⌜ now (reads .exit) ≡ readsLeft (firstIn (now (store .entry)) budget) (now (reads .entry)) ⌝ }
 {
-    let t = reader::first(store, budget);
+    let t = walk_reader::first(store, budget);
     let n = t.answer;
-    let a = steps::moved(n);
+    let a = export_step::moved(n);
     if a.which == 0 {
         return a;
     }

@@ -2,10 +2,10 @@
 use mathlib.Core.List.{List}
 use Prim.Native.Nat.{ℕ}
 use lib.ListN.{length}
-use Rattle.iter.specs.declared.Step.{Step as Stepped}
-use Rattle.iter.specs.Calls.{startIn, nextIn}
-use Rattle.fill.specs.Fill.{Filled, fillIn}
-use Rattle.words.specs.Ten.{cursorOf}
+use Rattle.walk.specs.Calls.{startIn, nextIn}
+use Rattle.walk.specs.declared.Step.{Step as Stepped}
+use Rattle.walk_fill.specs.Fill.{Filled, fillIn}
+use Rattle.export_cursor.specs.Ten.{cursorOf}
 
 -- ---- the calls on a store s and the words l
 

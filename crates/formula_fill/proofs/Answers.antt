@@ -9,22 +9,22 @@ use borrow.Author.Tests.{ne-eqb}
 use lib.ListN.{length, getD}
 use Rattle.util.specs.Outcome.{Settled, settled}
 use Rattle.store.specs.Layout.{top, cap}
-use Rattle.iter.specs.declared.Cursor.{Cursor}
-use Rattle.iter.specs.Calls.{fits}
-use Rattle.iter.specs.Steps.{refusalOf}
-use Rattle.fill.specs.declared.Batch.{Batch}
-use Rattle.fill.specs.declared.Stop.the-variants.{Refused}
-use Rattle.fill.specs.Fill.{Filled, stopped, fillFrom, batchPaper, filled}
-use Rattle.fill.proofs.Fills.{fill-same, fill-answered}
-use Rattle.codes.specs.Tree.{four, nth}
-use Rattle.codes.specs.Check.{checkOf}
-use Rattle.codes.proofs.Accepted.{accepted}
-use Rattle.machine.specs.Machine.{machineWord}
-use Rattle.pairs.specs.Pairs.{Pair}
-use Rattle.formula.specs.Calls.{wordsOf}
-use Rattle.formula_iter.specs.Calls.{refusalIn}
-use Rattle.formula_iter.proofs.Answers.{refusal-cursor, none-refused, walked-words}
-use Rattle.pair_fill.specs.Pair.{pairWords, pairIn}
+use Rattle.walk.specs.Calls.{fits}
+use Rattle.walk.specs.Steps.{refusalOf}
+use Rattle.walk.specs.declared.Cursor.{Cursor}
+use Rattle.walk_fill.specs.Fill.{Filled, stopped, fillFrom, batchPaper, filled}
+use Rattle.walk_fill.specs.declared.Batch.{Batch}
+use Rattle.walk_fill.specs.declared.Stop.the-variants.{Refused}
+use Rattle.walk_fill.proofs.Fills.{fill-same, fill-answered}
+use Rattle.formula_codes.specs.Check.{checkOf}
+use Rattle.formula_codes.specs.Tree.{four, nth}
+use Rattle.formula_codes.proofs.Accepted.{accepted}
+use Rattle.formula_word.specs.Machine.{machineWord}
+use Rattle.formula_ask.specs.Calls.{wordsOf}
+use Rattle.formula_walk.specs.Calls.{refusalIn}
+use Rattle.formula_walk.proofs.Answers.{refusal-cursor, none-refused, walked-words}
+use Rattle.formula_pair.specs.Pair.{pairWords, pairIn}
+use Rattle.formula_pair_codes.specs.Pairs.{Pair}
 use Rattle.formula_fill.specs.Calls.{fillIn, fillOf}
 use Rattle.formula_fill.proofs.Pairs.{pair-words}
 

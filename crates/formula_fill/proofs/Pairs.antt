@@ -9,16 +9,16 @@ use lib.ListN.{getD}
 use Rattle.store.specs.Layout.{layerLen, cap, isStore, isCap}
 use Rattle.store.specs.Word.{word}
 use Rattle.store.proofs.Words.{word-in, word-out}
-use Rattle.layers.specs.Calls.{layerPart}
-use Rattle.iter.proofs.Answers.{lent-words}
-use Rattle.codes.specs.Tree.{joined, four, nth, value, treeWord}
-use Rattle.codes.specs.Codes.{kindOf, trees, treeOf}
-use Rattle.codes.proofs.Accepted.{Accepted, Beside}
-use Rattle.pairs.specs.Pairs.{Pair}
-use Rattle.machine.proofs.Arms.{three}
-use Rattle.formula.specs.Calls.{wordsOf}
-use Rattle.pair_fill.specs.Pair.{pairWords}
-use Rattle.pair_fill.proofs.Pairs.{three-parts}
+use Rattle.set_layers.specs.Calls.{layerPart}
+use Rattle.walk.proofs.Answers.{lent-words}
+use Rattle.formula_codes.specs.Codes.{kindOf, trees, treeOf}
+use Rattle.formula_codes.specs.Tree.{joined, four, nth, value, treeWord}
+use Rattle.formula_codes.proofs.Accepted.{Accepted, Beside}
+use Rattle.formula_word.proofs.Arms.{three}
+use Rattle.formula_ask.specs.Calls.{wordsOf}
+use Rattle.formula_pair.specs.Pair.{pairWords}
+use Rattle.formula_pair.proofs.Pairs.{three-parts}
+use Rattle.formula_pair_codes.specs.Pairs.{Pair}
 
 -- ---- the words of a slice
 

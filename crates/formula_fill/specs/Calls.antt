@@ -6,11 +6,11 @@ use lib.Dec.{eqb}
 use lib.ListN.{length}
 use Rattle.util.specs.Outcome.{Outcome}
 use Rattle.store.specs.Layout.{top}
-use Rattle.iter.specs.declared.Cursor.{Cursor}
-use Rattle.fill.specs.declared.Stop.the-variants.{Refused}
-use Rattle.fill.specs.Fill.{Filled, stopped, fillFrom, filled}
-use Rattle.formula.specs.Calls.{capOf, wordsOf}
-use Rattle.formula_iter.specs.Calls.{refusalIn}
+use Rattle.walk.specs.declared.Cursor.{Cursor}
+use Rattle.walk_fill.specs.Fill.{Filled, stopped, fillFrom, filled}
+use Rattle.walk_fill.specs.declared.Stop.the-variants.{Refused}
+use Rattle.formula_ask.specs.Calls.{capOf, wordsOf}
+use Rattle.formula_walk.specs.Calls.{refusalIn}
 
 unfoldable pub fillIn : List (List ℕ) → List ℕ → Cursor → ℕ → ℕ → Filled
 fillIn ss cs c b m =

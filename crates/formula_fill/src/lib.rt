@@ -1,17 +1,16 @@
-// Many members of a formula in one call: what that many calls of `formula_iter::next` do, with the tests made once.
-ghost use mathlib.Core.Path.{_≡_};
+// Many members of a formula in one call: what that many calls of `formula_walk::next` do, with the tests made once.
 ghost use lib.ListN.{length};
 ghost use Rattle.util.specs.Outcome.{Settled};
-ghost use Rattle.iter.specs.Calls.{Fine};
-ghost use Rattle.iter.specs.Steps.{Sinks};
-ghost use Rattle.fill.specs.Fill.{fillFrom, batchPaper, filled};
-ghost use Rattle.codes.specs.Tree.{four};
-ghost use Rattle.machine.specs.Machine.{machineWord};
+ghost use Rattle.walk.specs.Calls.{Fine};
+ghost use Rattle.walk.specs.Steps.{Sinks};
+ghost use Rattle.walk_fill.specs.Fill.{fillFrom, batchPaper, filled};
+ghost use Rattle.formula_codes.specs.Tree.{four};
+ghost use Rattle.formula_word.specs.Machine.{machineWord};
 ghost use Rattle.formula_fill.specs.Calls.{fillOf};
-use fill::Batch;
-use fill::Stop;
-use iter::Cursor;
-use iter::Sunk;
+use walk::Cursor;
+use walk::Sunk;
+use walk_fill::Batch;
+use walk_fill::Stop;
 
 // Words are read until none is wanted or the budget is spent. A member at hand is met here, so that it costs no call.
 fn sink(
@@ -60,7 +59,7 @@ fn fill_in(
         c = d.cursor;
         spent = d.reads;
         if c.masks[0] == 0 {
-            return fill::rest(c, spent, count);
+            return walk_fill::rest(c, spent, count);
         }
         out[count] = c.place(0) as u32;
         c = c.hand();
@@ -87,16 +86,16 @@ pub fn fill(
 ) -> Batch
     ensures { λ r. ⌜ Settled batchPaper (fillOf (four (now (s0 .entry)) (now (s1 .entry)) (now (s2 .entry)) (now (s3 .entry))) (now (codes .entry)) c budget (now (out .entry))) r (now (out .exit)) ⌝ }
 {
-    let no = codes::check(codes, s0, s1, s2, s3);
+    let no = formula_codes::check(codes, s0, s1, s2, s3);
     if no != 0 {
-        return fill::made(c, 0, 0, Stop::Refused(no));
+        return walk_fill::made(c, 0, 0, Stop::Refused(no));
     }
-    if pairs::is_pair(codes) {
-        return named_fill::fill(c, codes, s0, s1, s2, s3, budget, out);
+    if formula_pair_codes::is_pair(codes) {
+        return formula_pair_codes::fill(c, codes, s0, s1, s2, s3, budget, out);
     }
     let bad = c.refusal(1);
     if bad != 0 {
-        return fill::made(c, 0, 0, Stop::Refused(bad));
+        return walk_fill::made(c, 0, 0, Stop::Refused(bad));
     }
     let n = store::get(s0, 0) as usize;
     fill_in(c, codes, n, s0, s1, s2, s3, budget, out)

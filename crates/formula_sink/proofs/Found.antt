@@ -3,11 +3,11 @@ use mathlib.Core.Bool.{false}
 use mathlib.Core.Path.{_≡_, ap}
 use Prim.Native.Nat.{ℕ}
 use native.Mathlib.Omega.{arith}
-use Rattle.iter.specs.declared.Cursor.{Cursor}
-use Rattle.iter.specs.Steps.{isReading}
-use Rattle.iter.specs.Walk.{kind}
-use Rattle.formula_sink.specs.declared.Spot.{Spot}
+use Rattle.walk.specs.Steps.{isReading}
+use Rattle.walk.specs.Walk.{kind}
+use Rattle.walk.specs.declared.Cursor.{Cursor}
 use Rattle.formula_sink.specs.Steps.{Spotted, Wanted}
+use Rattle.formula_sink.specs.declared.Spot.{Spot}
 
 module _ {n : ℕ} {c : Cursor} {p : Spot} where
   pub found-none : isReading (kind 3 c) ≡ false → p ≡ record { layer = 3; index = 0; at = 0 } → Wanted n c p

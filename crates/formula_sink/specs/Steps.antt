@@ -4,10 +4,10 @@ use mathlib.Core.Logic.{_≢_}
 use mathlib.Core.Path.{_≡_}
 use Prim.Native.Nat.{ℕ, suc, _%_, _<_}
 use lib.ListN.{getD}
-use Rattle.iter.specs.declared.Cursor.{Cursor}
-use Rattle.iter.specs.Steps.{isReading}
-use Rattle.iter.specs.Walk.{lowLayer, kind, firstBit, placeAt}
-use Rattle.spots.specs.Spots.{placeOf}
+use Rattle.walk.specs.Steps.{isReading}
+use Rattle.walk.specs.Walk.{lowLayer, kind, firstBit, placeAt}
+use Rattle.walk.specs.declared.Cursor.{Cursor}
+use Rattle.formula_place.specs.Spots.{placeOf}
 use Rattle.formula_sink.specs.declared.Spot.{Spot}
 
 -- the word below the lowest bit of the lowest layer, and where it stands in stores of capacity n

@@ -2,14 +2,14 @@
 ghost use mathlib.Core.Path.{_≡_};
 ghost use Prim.Native.Nat.{_+_, _-_, _<_};
 ghost use lib.ListN.{getD};
-ghost use Rattle.iter.specs.Steps.{Lowers, Sinks};
-ghost use Rattle.iter.specs.Walk.{lowLayer, handled};
-ghost use Rattle.codes.specs.Tree.{four};
-ghost use Rattle.codes.specs.Codes.{cutsIn};
-ghost use Rattle.machine.specs.Machine.{machineWord};
+ghost use Rattle.walk.specs.Steps.{Lowers, Sinks};
+ghost use Rattle.walk.specs.Walk.{lowLayer, handled};
+ghost use Rattle.formula_codes.specs.Codes.{cutsIn};
+ghost use Rattle.formula_codes.specs.Tree.{four};
+ghost use Rattle.formula_word.specs.Machine.{machineWord};
 ghost use Rattle.formula_sink.specs.Steps.{Spotted, Wanted};
-use iter::Cursor;
-use iter::Sunk;
+use walk::Cursor;
+use walk::Sunk;
 
 // The word that has to be read: its layer, its index, and where it stands in a store.
 struct Spot {
@@ -27,7 +27,7 @@ fn below(c: Cursor, k: usize, n: usize) -> Spot
     Spot {
         layer: k,
         index: q,
-        at: spots::spot(n, k, q),
+        at: formula_place::spot(n, k, q),
     }
 }
 
@@ -91,8 +91,8 @@ fn read(
     requires { ⌜ (Spotted n c p) × (cuts ≡ cutsIn (now codes)) ⌝ }
     ensures { λ r. ⌜ Lowers (machineWord n (four (now (s0 .entry)) (now (s1 .entry)) (now (s2 .entry)) (now (s3 .entry))) (now (codes .entry))) (lowLayer 3 c - 1) c r ⌝ }
 {
-    let x = spots::cut(cuts, n, p.layer, p.index);
-    let w = machine::word_at(codes, p.layer, x, p.at, s0, s1, s2, s3);
+    let x = formula_place::cut(cuts, n, p.layer, p.index);
+    let w = formula_word::word_at(codes, p.layer, x, p.at, s0, s1, s2, s3);
     lower(c, p.layer, w)
 }
 
@@ -110,7 +110,7 @@ pub fn sink(
 ) -> Sunk
     ensures { λ r. ⌜ Sinks (machineWord n (four (now (s0 .entry)) (now (s1 .entry)) (now (s2 .entry)) (now (s3 .entry))) (now (codes .entry))) budget spent from r ⌝ }
 {
-    let cuts = codes::cuts(codes);
+    let cuts = formula_codes::cuts(codes);
     let mut c = from;
     let mut reads = spent;
     while reads < budget {

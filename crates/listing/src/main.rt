@@ -4,7 +4,7 @@
 ghost use Prim.Native.Nat.{_+_, _≤_, _<_, _^_};
 ghost use lib.ListN.{length};
 ghost use Rattle.io.specs.Counts.{Counts};
-ghost use Rattle.replies.specs.Replies.{Good};
+ghost use Rattle.listing_replies.specs.Replies.{Good};
 use libc::STDIN_FILENO;
 
 // What is carried from piece to piece: how much of the output buffer is filled, how long the line is so far, how many lines ended.
@@ -27,8 +27,8 @@ fn step(store: &mut [u64], line: &[u8], buf: &mut [u8], st: State, len: usize, e
         };
     }
     let number = st.number + 1;
-    let c = lines::command_in(line, len);
-    let at = replies::reply(store, buf, st.at, c, number);
+    let c = listing_line::command_in(line, len);
+    let at = listing_replies::reply(store, buf, st.at, c, number);
     State { at, len: 0, number }
 }
 
@@ -40,7 +40,7 @@ fn feed(store: &mut [u64], line: &mut [u8], buf: &mut [u8], st: State, piece: &[
     let mut s = st;
     let mut i = 0usize;
     while i < piece.len() {
-        let g = input::gather(line, s.len, piece, i);
+        let g = text_in::gather(line, s.len, piece, i);
         i = g.next;
         s = step(store, line, buf, s, g.len, g.ended);
     }
@@ -63,7 +63,7 @@ fn fill(piece: &mut [u8], left: u64) -> usize
 // number of a line, which is at most the number of bytes taken, never wraps. A last line that lacks its newline is answered at the end.
 fn main() {
     let mut store = [0u64; 4163];
-    whole::open(&mut store, 262144);
+    set_whole::open(&mut store, 262144);
     let mut line = [0u8; 13];
     let mut buf = io::large_buffer();
     let mut piece = io::large_buffer();
@@ -82,5 +82,5 @@ fn main() {
         s = feed(&mut store, &mut line, &mut buf, s, &piece[..n]);
     }
     let e = step(&mut store, &line, &mut buf, s, s.len, 0 < s.len);
-    text::flush(&buf, e.at);
+    text_out::flush(&buf, e.at);
 }

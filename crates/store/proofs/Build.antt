@@ -14,12 +14,12 @@ use lib.Pow.{pow-mono}
 use lib.Seq.{drop-at, drop-drop, getD-take, getD-drop, getD-append-add}
 use Rattle.util.specs.Word.{bit}
 use Rattle.util.proofs.Bits.{bit-of-zero, bit-zero, bit-suc, bit-high, bits-below}
+use Rattle.store.specs.Build.{flag, flags, chunks, summary, layerOf, stacked, build, layer0, room0, Kept, empty}
 use Rattle.store.specs.Layout.{header, maxCap, words, room, layerLen, layerStart, storeLen, cap, top, StoreOf}
 use Rattle.store.specs.Word.{word, on, Sound, Words64}
-use Rattle.store.specs.Build.{flag, flags, chunks, summary, layerOf, stacked, build, layer0, room0, Kept, empty}
 use Rattle.store.proofs.Geometry.{end-top, end-step, after-header, within}
-use Rattle.store.proofs.Words.{word-in, word-out, on-lt, bit-place}
 use Rattle.store.proofs.Members.{words-same, by-layers}
+use Rattle.store.proofs.Words.{word-in, word-out, on-lt, bit-place}
 
 -- ---- flags
 

@@ -3,12 +3,12 @@ use mathlib.Core.Bool.{true, _&&_}
 use mathlib.Core.List.{List}
 use mathlib.Core.Path.{_≡_, refl, sym, ap, ap₂, _∙_}
 use Prim.Native.Nat.{ℕ, zero, suc, _+_, _-_, _*_, _/_, _^_, _≤_, _<_}
-use native.Mathlib.Nat.{sub-self, pow-suc, one-le-pow, add-mul-div-right, div-div-eq-div-mul}
 use native.Mathlib.Decide.{decLt, le-ind}
+use native.Mathlib.Nat.{sub-self, pow-suc, one-le-pow, add-mul-div-right, div-div-eq-div-mul}
 use native.Mathlib.Omega.{arith}
+use borrow.Author.Tests.{le-leb, eq-eqb, leb-true, eqb-true}
 use lib.Dec.{leb, eqb}
 use lib.ListN.{length}
-use borrow.Author.Tests.{le-leb, eq-eqb, leb-true, eqb-true}
 use Rattle.util.proofs.Same.{both}
 use Rattle.store.specs.Layout.{header, top, maxCap, isCap, words, room, layerLen, span, layerEnd, layerStart, storeLen, cap, isStore, StoreOf}
 

@@ -3,9 +3,9 @@ use mathlib.Core.List.{List}
 use mathlib.Core.Path.{_≡_, ap, _∙_}
 use Prim.Native.Nat.{ℕ, _+_, _-_, _<_, _≤_}
 use native.Mathlib.Omega.{arith}
+use borrow.Rule.Slice.PartMut.{midOf, putMid, set-mid-at}
 use lib.ListN.{length, getD, set, drop, length-take, length-drop}
 use lib.Seq.{getD-take, getD-drop}
-use borrow.Rule.Slice.PartMut.{midOf, putMid, set-mid-at}
 
 -- a word of the part
 pub part-word : (a e i : ℕ) (xs : List ℕ) → a + i < e → getD (midOf a (e - a) xs) i 0 ≡ getD xs (a + i) 0

@@ -1,3 +1,4 @@
 pub mod Layers
 pub mod Answers
 pub mod Said
+pub mod Last

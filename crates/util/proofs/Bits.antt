@@ -1,16 +1,16 @@
 -- The bits of a word under every operation that the code makes on words.
 use mathlib.Core.Bool.{Bool, true, false, cond, not}
-use mathlib.Core.Path.{_≡_, refl, sym, ap, _∙_, subst}
 use mathlib.Core.Logic.{_≢_}
+use mathlib.Core.Path.{_≡_, refl, sym, ap, _∙_, subst}
 use Prim.Native.Nat.{ℕ, zero, suc, _+_, _-_, _*_, _/_, _%_, _^_, _≤_, _<_, min, max}
-use native.Mathlib.Nat.{mod-lt, mul-add-mod-self-right, mod-eq-of-lt, zero-div, one-mul, pow-suc, div-div-eq-div-mul, mul-comm, div-one, zero-lt-suc, div-eq-of-lt, mul-div-cancel, add-zero, div-lt-iff-lt-mul}
 use native.Mathlib.Decide.{decLt, ℕ-discrete}
+use native.Mathlib.Nat.{mod-lt, mul-add-mod-self-right, mod-eq-of-lt, zero-div, one-mul, pow-suc, div-div-eq-div-mul, mul-comm, div-one, zero-lt-suc, div-eq-of-lt, mul-div-cancel, add-zero, div-lt-iff-lt-mul}
 use native.Mathlib.Omega.{arith}
 use borrow.Author.Tests.{eq-eqb, ne-eqb}
 use lib.Arith.{bin-ind}
+use lib.Bits.{bitAnd, bitOr, bitXor, differ, and-step, or-step, xor-step, and-shr, or-shr, xor-shr, or-disjoint, or-lt, and-le-l}
 use lib.Dec.{eqb}
 use lib.Pow.{pow-pos, pow-lt, pow-mono, shl-exact, shl-shr, split}
-use lib.Bits.{bitAnd, bitOr, bitXor, differ, and-step, or-step, xor-step, and-shr, or-shr, xor-shr, or-disjoint, or-lt, and-le-l}
 use Rattle.util.specs.Word.{bit, flip, change}
 
 -- `1 << b`

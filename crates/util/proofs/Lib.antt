@@ -2,3 +2,4 @@ pub mod Bits
 pub mod Places
 pub mod Same
 pub mod Count
+pub mod Lowest

@@ -1,14 +1,14 @@
 -- The numbers at which a function is not 0, and the set bits of a word as the case that all walks go by.
-use mathlib.Core.Path.{_≡_, refl, sym, ap, ap₂, _∙_}
-use mathlib.Core.Logic.{_≢_, _↔_, _⊎_, inl, inr, ⊎-elim}
 use mathlib.Core.List.{List, [], _∷_, _++_, List·Memᴰ, List·Memᴰ·cases-cons, List·Memᴰ·not-nil}
 use mathlib.Core.List.List·Memᴰ.{List·Memᴰ·head, List·Memᴰ·tail}
+use mathlib.Core.Logic.{_≢_, _↔_, _⊎_, inl, inr, ⊎-elim}
+use mathlib.Core.Path.{_≡_, refl, sym, ap, ap₂, _∙_}
 use Prim.Native.Nat.{ℕ, zero, suc, _+_, _-_, _/_, _%_, _^_, _≤_, _<_}
-use native.Mathlib.Nat.{add-zero, pow-suc}
 use native.Mathlib.Decide.{ℕ-discrete}
+use native.Mathlib.Nat.{add-zero, pow-suc}
 use native.Mathlib.Omega.{arith}
-use lib.ListN.{length}
 use lib.Count.{onesIn, trailingZeros, under}
+use lib.ListN.{length}
 use Rattle.util.specs.Word.{bit, count, keep, places, bits, Rising}
 use Rattle.util.proofs.Bits.{bit-lt, bit-zero, bit-suc, bit-of-zero, minus-same, minus-other}
 

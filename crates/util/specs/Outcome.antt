@@ -1,7 +1,7 @@
 -- What a public call promises: document 01, "every public call carries a promise that settles result and lent memory for all inputs,
 -- refusals too. Any two outcomes that satisfy it are proved equal."
-use mathlib.Core.Path.{_≡_, sym, ap, _∙_}
 use mathlib.Core.List.{List}
+use mathlib.Core.Path.{_≡_, sym, ap, _∙_}
 use Prim.Native.Nat.{ℕ}
 
 -- An outcome: the answer as the paper's numbers, and what was lent as it is at exit (a list of words or bytes, several as a tuple,

@@ -1,9 +1,10 @@
-// Bits and shifts: the Rust's util.rs on 64-bit words.
+// Bits and shifts: the Rust's util.rs on 64-bit words, and the lowest set bit.
 ghost use mathlib.Core.Path.{_≡_};
-ghost use Prim.Native.Nat.{_%_};
+ghost use Prim.Native.Nat.{_%_, _-_, _^_};
+ghost use lib.Count.{trailingZeros};
 ghost use lib.Dec.{eqb};
-ghost use Rattle.util.specs.Word.{bit, change};
 ghost use Rattle.util.specs.Row.{offsetOf, rowOf, maskOf, offsetsOf};
+ghost use Rattle.util.specs.Word.{bit, change};
 
 // Base two log of the number of bits in a word.
 pub const BITS: usize = 6;
@@ -73,4 +74,14 @@ pub fn with_bit(w: u64, b: usize, on: bool) -> u64
 {
     let m = 1u64 << (b % 64);
     if on { w | m } else { w & !m }
+}
+
+// The word without its lowest set bit; 0 stays 0.
+pub fn drop_lowest(w: u64) -> u64
+    ensures { λ r. ⌜ r ≡ w - 2 ^ trailingZeros 64 w ⌝ }
+{
+    if w == 0 {
+        return 0;
+    }
+    w & (w - 1)
 }

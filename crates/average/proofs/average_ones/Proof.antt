@@ -5,17 +5,17 @@ use Prim.Native.Nat.{ℕ, suc, _+_, _-_, _*_, _/_, _^_, _≤_, _<_}
 use native.Mathlib.Omega.{arith}
 use borrow.Author.Needs.{needs}
 use lib.Arith.{digits-div}
-use lib.Dec.{T, ltb, leb, lit<, ltb→lt, leb→le}
-use lib.Pow.{shr-lt}
 use lib.Bits.{bitAnd}
 use lib.Count.{ones, ones-le}
+use lib.Dec.{T, ltb, leb, lit<, ltb→lt, leb→le}
+use lib.Pow.{shr-lt}
 use Rattle.util.specs.Outcome.{Settled}
 use Rattle.average.specs.Average.{paper, averageOf}
 use Rattle.average.specs.Search.{tally, above, Within, Step}
 use Rattle.average.specs.declared.Half.the-variants.{At}
 use Rattle.average.specs.declared.Search.{Search}
-use Rattle.average.proofs.Tally.{lower, twice, byOneMask, tally-bits, tally-whole, mask-widens, field-lt}
 use Rattle.average.proofs.Average.{found, none-found, above-none, above-all}
+use Rattle.average.proofs.Tally.{lower, twice, byOneMask, tally-bits, tally-whole, mask-widens, field-lt}
 use Rattle.average.proofs.average_ones.Statement.{statement}
 use Rattle.average.proofs.average_ones.Tie as tie
 

@@ -4,9 +4,9 @@ use mathlib.Core.Path.{_≡_, sym, ap, _∙_}
 use Prim.Native.Nat.{ℕ, _+_, _-_, _/_, _^_, _<_}
 use native.Mathlib.Nat.{le-trans}
 use native.Mathlib.Omega.{arith}
+use lib.Bits.{bitAnd, and-le-l, and-le-r}
 use lib.Dec.{lit<}
 use lib.Pow.{shr-le}
-use lib.Bits.{bitAnd, and-le-l, and-le-r}
 use Rattle.average.specs.Search.{tally}
 use Rattle.average.proofs.Tally.{lower, twice, byMinus, byMasks, byOneMask, tally-bits, minus-widens, masks-widen, mask-widens}
 use Rattle.average.proofs.count_fields.Statement.{statement}

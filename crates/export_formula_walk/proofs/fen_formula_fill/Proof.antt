@@ -2,14 +2,14 @@
 use mathlib.Core.Path.{_≡_, ap, _∙_}
 use borrow.Author.Needs.{needs}
 use lib.ListN.{length}
-use Rattle.fill.specs.declared.Batch.{Batch}
-use Rattle.iter.specs.declared.Cursor.{Cursor}
-use Rattle.fill.specs.Fill.{Filled, batch}
-use Rattle.codes.specs.Tree.{four}
+use Rattle.walk.specs.declared.Cursor.{Cursor}
+use Rattle.walk_fill.specs.Fill.{Filled, batch}
+use Rattle.walk_fill.specs.declared.Batch.{Batch}
+use Rattle.walk_fill.proofs.Fills.{the-batch}
+use Rattle.formula_codes.specs.Tree.{four}
 use Rattle.formula_fill.specs.Calls.{fillIn}
-use Rattle.fill.proofs.Fills.{the-batch}
-use Rattle.words.specs.Ten.{cursorOf}
-use Rattle.steps.specs.Answers.{stopOf, leftOf, outOf}
+use Rattle.export_cursor.specs.Ten.{cursorOf}
+use Rattle.export_step.specs.Answers.{stopOf, leftOf, outOf}
 use Rattle.export_formula_walk.proofs.fen_formula_fill.Statement.{statement}
 use Rattle.export_formula_walk.proofs.fen_formula_fill.Tie as tie
 

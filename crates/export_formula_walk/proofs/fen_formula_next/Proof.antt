@@ -1,13 +1,13 @@
 -- `export_formula_walk::fen_formula_next` meets its contract. Assumes nothing.
 use mathlib.Core.Path.{_≡_, ap, _∙_}
 use borrow.Author.Needs.{needs}
-use Rattle.iter.specs.declared.Cursor.{Cursor}
-use Rattle.iter.specs.declared.Step.{Step}
-use Rattle.iter.proofs.Answers.{the-step}
-use Rattle.codes.specs.Tree.{four}
-use Rattle.formula_iter.specs.Calls.{nextIn}
-use Rattle.words.specs.Ten.{cursorOf}
-use Rattle.steps.specs.Answers.{movedOf, wordsOf}
+use Rattle.walk.specs.declared.Cursor.{Cursor}
+use Rattle.walk.specs.declared.Step.{Step}
+use Rattle.walk.proofs.Answers.{the-step}
+use Rattle.formula_codes.specs.Tree.{four}
+use Rattle.formula_walk.specs.Calls.{nextIn}
+use Rattle.export_cursor.specs.Ten.{cursorOf}
+use Rattle.export_step.specs.Answers.{movedOf, wordsOf}
 use Rattle.export_formula_walk.proofs.fen_formula_next.Statement.{statement}
 use Rattle.export_formula_walk.proofs.fen_formula_next.Tie as tie
 

@@ -1,7 +1,7 @@
 -- `export_layers::fen_get_from_layer` meets its contract. Assumes nothing.
 use borrow.Author.Needs.{needs}
 use Rattle.store.specs.Answer.{readPaper}
-use Rattle.abi.proofs.Tells.{tells}
+use Rattle.export_answer.proofs.Tells.{tells}
 use Rattle.export_layers.proofs.fen_get_from_layer.Statement.{statement}
 use Rattle.export_layers.proofs.fen_get_from_layer.Tie as tie
 

@@ -1,7 +1,7 @@
 -- `export_map::fen_read` meets its contract. Assumes nothing.
 use borrow.Author.Needs.{needs}
 use Rattle.store.specs.Answer.{didPaper}
-use Rattle.abi.proofs.Tells.{tells}
+use Rattle.export_answer.proofs.Tells.{tells}
 use Rattle.export_map.proofs.fen_read.Statement.{statement}
 use Rattle.export_map.proofs.fen_read.Tie as tie
 

@@ -1,7 +1,7 @@
 -- `export_map::fen_write` meets its contract. Assumes nothing.
 use borrow.Author.Needs.{needs}
-use Rattle.chunkmap.specs.Answer.{wrotePaper}
-use Rattle.abi.proofs.Tells.{tells}
+use Rattle.map_write.specs.Answer.{wrotePaper}
+use Rattle.export_answer.proofs.Tells.{tells}
 use Rattle.export_map.proofs.fen_write.Statement.{statement}
 use Rattle.export_map.proofs.fen_write.Tie as tie
 

@@ -1,8 +1,8 @@
 -- `export_map::wrote` meets its contract. Assumes nothing.
 use mathlib.Core.Path.{refl}
-use Rattle.chunkmap.specs.Answer.{wrotePaper}
-use Rattle.abi.proofs.Tells.{told}
 use borrow.Author.Needs.{needs}
+use Rattle.map_write.specs.Answer.{wrotePaper}
+use Rattle.export_answer.proofs.Tells.{told}
 use Rattle.export_map.proofs.wrote.Statement.{statement}
 use Rattle.export_map.proofs.wrote.Tie as tie
 

@@ -1,7 +1,7 @@
 -- `export_probe::fen_probe_first` meets its contract. Assumes nothing.
+use borrow.Author.Needs.{needs}
 use Rattle.export_probe.specs.First.{firstIn}
 use Rattle.export_probe.proofs.Told.{answer-is, reads-kept, reads-told}
-use borrow.Author.Needs.{needs}
 use Rattle.export_probe.proofs.fen_probe_first.Statement.{statement}
 use Rattle.export_probe.proofs.fen_probe_first.Tie as tie
 

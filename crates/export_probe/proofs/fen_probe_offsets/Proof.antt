@@ -1,8 +1,8 @@
 -- `export_probe::fen_probe_offsets` meets its contract. Assumes nothing.
 use mathlib.Core.List.{[], _∷_}
 use mathlib.Core.Path.{ap}
-use Rattle.util.specs.declared.Parents.{Parents}
 use borrow.Author.Needs.{needs}
+use Rattle.util.specs.declared.Parents.{Parents}
 use Rattle.export_probe.proofs.fen_probe_offsets.Statement.{statement}
 use Rattle.export_probe.proofs.fen_probe_offsets.Tie as tie
 

@@ -1,7 +1,7 @@
 -- `export_set::fen_add_list` meets its contract. Assumes nothing.
-use Rattle.store.specs.Answer.{didPaper}
-use Rattle.abi.proofs.Tells.{tells}
 use borrow.Author.Needs.{needs}
+use Rattle.store.specs.Answer.{didPaper}
+use Rattle.export_answer.proofs.Tells.{tells}
 use Rattle.export_set.proofs.fen_add_list.Statement.{statement}
 use Rattle.export_set.proofs.fen_add_list.Tie as tie
 

@@ -1,7 +1,7 @@
 -- `export_set::fen_first_free` meets its contract. Assumes nothing.
-use Rattle.store.specs.Answer.{foundPaper}
-use Rattle.abi.proofs.Tells.{tells}
 use borrow.Author.Needs.{needs}
+use Rattle.store.specs.Answer.{foundPaper}
+use Rattle.export_answer.proofs.Tells.{tells}
 use Rattle.export_set.proofs.fen_first_free.Statement.{statement}
 use Rattle.export_set.proofs.fen_first_free.Tie as tie
 

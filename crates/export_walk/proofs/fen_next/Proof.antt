@@ -3,13 +3,13 @@ use mathlib.Core.List.{List}
 use mathlib.Core.Path.{_≡_, sym, ap, _∙_}
 use Prim.Native.Nat.{ℕ}
 use borrow.Author.Needs.{needs}
-use Rattle.iter.specs.declared.Cursor.{Cursor}
-use Rattle.iter.specs.declared.Step.{Step as Stepped}
-use Rattle.iter.specs.Calls.{nextIn}
-use Rattle.iter.proofs.Answers.{the-step}
-use Rattle.words.specs.Ten.{cursorOf}
-use Rattle.quick.proofs.Quickly.{quick-some, quick-none, quick-next, quick-put}
-use Rattle.steps.specs.Answers.{movedOf, wordsOf}
+use Rattle.walk.specs.Calls.{nextIn}
+use Rattle.walk.specs.declared.Cursor.{Cursor}
+use Rattle.walk.specs.declared.Step.{Step as Stepped}
+use Rattle.walk.proofs.Answers.{the-step}
+use Rattle.export_cursor.specs.Ten.{cursorOf}
+use Rattle.export_quick.proofs.Quickly.{quick-some, quick-none, quick-next, quick-put}
+use Rattle.export_step.specs.Answers.{movedOf, wordsOf}
 use Rattle.export_walk.proofs.fen_next.Statement.{statement}
 use Rattle.export_walk.proofs.fen_next.Tie as tie
 

@@ -1,12 +1,12 @@
 -- `export_walk::fen_start` meets its contract. Assumes nothing.
 use mathlib.Core.Path.{_≡_, ap, _∙_}
 use borrow.Author.Needs.{needs}
-use Rattle.iter.specs.declared.Cursor.{Cursor}
-use Rattle.iter.specs.declared.Step.{Step}
-use Rattle.iter.specs.Calls.{startIn}
-use Rattle.iter.proofs.Answers.{the-step}
-use Rattle.words.specs.Ten.{cursorOf}
-use Rattle.steps.specs.Answers.{movedOf, wordsOf}
+use Rattle.walk.specs.Calls.{startIn}
+use Rattle.walk.specs.declared.Cursor.{Cursor}
+use Rattle.walk.specs.declared.Step.{Step}
+use Rattle.walk.proofs.Answers.{the-step}
+use Rattle.export_cursor.specs.Ten.{cursorOf}
+use Rattle.export_step.specs.Answers.{movedOf, wordsOf}
 use Rattle.export_walk.proofs.fen_start.Statement.{statement}
 use Rattle.export_walk.proofs.fen_start.Tie as tie
 

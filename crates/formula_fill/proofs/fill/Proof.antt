@@ -1,13 +1,13 @@
 -- `formula_fill::fill` meets its contract: a pair over the layers of its stores, any other codes by the machine. Assumes nothing.
 use mathlib.Core.Path.{_≡_, sym, _∙_}
-use Rattle.iter.proofs.Cursors.{fine-of}
-use Rattle.codes.specs.Tree.{four}
-use Rattle.formula_iter.specs.Calls.{refusalIn}
-use Rattle.pairs.specs.Pairs.{Pair}
-use Rattle.pairs.proofs.Laws.{pair-of}
-use Rattle.formula_iter.proofs.Answers.{refusal-formula, refusal-cursor, none-refused}
-use Rattle.formula_fill.proofs.Answers.{fill-refused, fill-joins, fill-runs}
 use borrow.Author.Needs.{needs}
+use Rattle.walk.proofs.Cursors.{fine-of}
+use Rattle.formula_codes.specs.Tree.{four}
+use Rattle.formula_walk.specs.Calls.{refusalIn}
+use Rattle.formula_walk.proofs.Answers.{refusal-formula, refusal-cursor, none-refused}
+use Rattle.formula_pair_codes.specs.Pairs.{Pair}
+use Rattle.formula_pair_codes.proofs.Laws.{pair-of}
+use Rattle.formula_fill.proofs.Answers.{fill-refused, fill-joins, fill-runs}
 use Rattle.formula_fill.proofs.fill.Statement.{statement}
 use Rattle.formula_fill.proofs.fill.Tie as tie
 

@@ -1,15 +1,15 @@
 -- `formula_fill::fill_in` meets its contract. The invariant: what stands in `out` and what a fill of its other places hands out are what the
 -- whole fill hands out. Assumes nothing.
-use Prim.Native.Nat.{_+_, _-_, _*_, _^_, _<_}
+use Prim.Native.Nat.{_-_, _*_, _^_, _<_}
 use native.Mathlib.Omega.{arith}
 use borrow.Author.Needs.{needs}
-use lib.ListN.{length, length-set}
-use Rattle.codes.specs.Tree.{four}
-use Rattle.machine.specs.Machine.{machineWord}
-use Rattle.iter.specs.Steps.{Sank}
-use Rattle.fill.specs.Steps.{Filling}
-use Rattle.iter.proofs.Cursors.{id-small}
-use Rattle.fill.proofs.Fills.{fill-start, fill-down, fill-rest, fill-again, fill-full, as-batch}
+use lib.ListN.{length}
+use Rattle.walk.specs.Steps.{Sank}
+use Rattle.walk.proofs.Cursors.{id-small}
+use Rattle.walk_fill.specs.Steps.{Filling}
+use Rattle.walk_fill.proofs.Fills.{fill-start, fill-down, fill-rest, fill-again, fill-full, as-batch}
+use Rattle.formula_codes.specs.Tree.{four}
+use Rattle.formula_word.specs.Machine.{machineWord}
 use Rattle.formula_fill.proofs.fill_in.Statement.{statement}
 use Rattle.formula_fill.proofs.fill_in.Tie as tie
 

@@ -1,6 +1,6 @@
 -- `formula_fill::sink` meets its contract. Assumes nothing.
-use Rattle.iter.proofs.Turns.{sink-none}
 use borrow.Author.Needs.{needs}
+use Rattle.walk.proofs.Turns.{sink-none}
 use Rattle.formula_fill.proofs.sink.Statement.{statement}
 use Rattle.formula_fill.proofs.sink.Tie as tie
 

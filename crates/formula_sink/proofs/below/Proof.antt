@@ -3,9 +3,9 @@ use mathlib.Core.Path.{_≡_, _∙_, subst}
 use Prim.Native.Nat.{ℕ, suc, _+_, _%_, _<_}
 use native.Mathlib.Numerals.{add-one}
 use native.Mathlib.Omega.{arith}
-use lib.ListN.{getD}
-use Rattle.iter.specs.Walk.{firstBit, placeAt}
 use borrow.Author.Needs.{needs}
+use lib.ListN.{getD}
+use Rattle.walk.specs.Walk.{firstBit, placeAt}
 use Rattle.formula_sink.proofs.below.Statement.{statement}
 use Rattle.formula_sink.proofs.below.Tie as tie
 

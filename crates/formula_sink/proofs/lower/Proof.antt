@@ -2,8 +2,8 @@
 use mathlib.Core.Path.{_≡_, ap, _∙_}
 use Prim.Native.Nat.{ℕ}
 use native.Mathlib.Omega.{arith}
-use Rattle.iter.specs.Walk.{handled}
 use borrow.Author.Needs.{needs}
+use Rattle.walk.specs.Walk.{handled}
 use Rattle.formula_sink.proofs.lower.Statement.{statement}
 use Rattle.formula_sink.proofs.lower.Tie as tie
 

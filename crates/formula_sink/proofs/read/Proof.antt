@@ -1,10 +1,10 @@
 -- `formula_sink::read` meets its contract. Assumes nothing.
 use mathlib.Core.Path.{refl}
-use Rattle.codes.specs.Tree.{four}
-use Rattle.machine.specs.Machine.{machineWord}
-use Rattle.machine.proofs.Words.{word-cut-is}
-use Rattle.iter.proofs.Cursors.{lowers, lowers-at}
 use borrow.Author.Needs.{needs}
+use Rattle.walk.proofs.Cursors.{lowers, lowers-at}
+use Rattle.formula_codes.specs.Tree.{four}
+use Rattle.formula_word.specs.Machine.{machineWord}
+use Rattle.formula_word.proofs.Words.{word-cut-is}
 use Rattle.formula_sink.proofs.read.Statement.{statement}
 use Rattle.formula_sink.proofs.read.Tie as tie
 

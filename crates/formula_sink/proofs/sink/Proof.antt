@@ -1,11 +1,11 @@
 -- `formula_sink::sink` meets its contract: `Sinking` is the invariant, as for one store. Assumes nothing.
 use Prim.Native.Nat.{_-_}
 use native.Mathlib.Omega.{arith}
-use Rattle.codes.specs.Tree.{four}
-use Rattle.machine.specs.Machine.{machineWord}
-use Rattle.iter.proofs.Cursors.{wants-at}
-use Rattle.iter.proofs.Turns.{Sinking, sink-start, sink-again, sink-rests, sink-spent}
 use borrow.Author.Needs.{needs}
+use Rattle.walk.proofs.Cursors.{wants-at}
+use Rattle.walk.proofs.Turns.{Sinking, sink-start, sink-again, sink-rests, sink-spent}
+use Rattle.formula_codes.specs.Tree.{four}
+use Rattle.formula_word.specs.Machine.{machineWord}
 use Rattle.formula_sink.proofs.sink.Statement.{statement}
 use Rattle.formula_sink.proofs.sink.Tie as tie
 

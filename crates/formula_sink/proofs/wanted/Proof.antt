@@ -1,11 +1,10 @@
 -- `formula_sink::wanted` meets its contract. Assumes nothing.
 use native.Mathlib.Omega.{arith}
-use Rattle.iter.proofs.Cursors.{rests-at-hand, low-one-of-three, low-two-of-three, low-three-of-three, rests-at-the-end}
 use borrow.Author.Needs.{needs}
+use Rattle.walk.proofs.Cursors.{rests-at-hand, low-one-of-three, low-two-of-three, low-three-of-three, rests-at-the-end}
 use Rattle.formula_sink.proofs.Found.{found-none, found-one}
 use Rattle.formula_sink.proofs.wanted.Statement.{statement}
 use Rattle.formula_sink.proofs.wanted.Tie as tie
-use Rattle.formula_sink.proofs.below.Reads as below-reads
 
 array-read-if1 : tie.Need-array-read-if1
 array-read-if1 c = search needs

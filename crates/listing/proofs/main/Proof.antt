@@ -2,10 +2,10 @@
 -- At every line the store is a store and sound. Assumes nothing.
 use mathlib.Core.Path.{_≡_}
 use Prim.Native.Nat.{_+_, _<_, _^_}
-use lib.ListN.{length}
-use Rattle.replies.specs.Replies.{Good}
-use Rattle.replies.proofs.Theorems.{good-open}
 use borrow.Author.Needs.{needs}
+use lib.ListN.{length}
+use Rattle.listing_replies.specs.Replies.{Good}
+use Rattle.listing_replies.proofs.Theorems.{good-open}
 use Rattle.listing.proofs.main.Statement.{statement}
 use Rattle.listing.proofs.main.Tie as tie
 

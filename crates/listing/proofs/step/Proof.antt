@@ -1,8 +1,8 @@
 -- `listing::step` meets its contract: a line leaves the store sound. Assumes nothing.
 use mathlib.Core.Path.{sym, subst}
-use Rattle.replies.specs.Replies.{Good}
-use Rattle.replies.proofs.Theorems.{good-after}
 use borrow.Author.Needs.{needs}
+use Rattle.listing_replies.specs.Replies.{Good}
+use Rattle.listing_replies.proofs.Theorems.{good-after}
 use Rattle.listing.proofs.step.Statement.{statement}
 use Rattle.listing.proofs.step.Tie as tie
 

@@ -2,9 +2,9 @@
 use mathlib.Core.Bool.{true}
 use mathlib.Core.Path.{_≡_, sym, ap, _∙_}
 use Prim.Native.Nat.{ℕ}
+use borrow.Author.Needs.{needs}
 use Rattle.store.specs.Layout.{cap, isCap, endOf}
 use Rattle.store.proofs.Ends.{capacity-none, capacity-long, capacity-short}
-use borrow.Author.Needs.{needs}
 use Rattle.store.proofs.capacity.Statement.{statement}
 use Rattle.store.proofs.capacity.Tie as tie
 

@@ -2,9 +2,9 @@
 use mathlib.Core.Path.{_≡_, refl}
 use Prim.Native.Nat.{_+_, _%_}
 use native.Mathlib.Omega.{arith}
+use borrow.Author.Needs.{needs}
 use Rattle.store.specs.Layout.{folded}
 use Rattle.store.proofs.Ends.{end-at, end-above, end3, end2, end1, end0}
-use borrow.Author.Needs.{needs}
 use Rattle.store.proofs.end.Statement.{statement}
 use Rattle.store.proofs.end.Tie as tie
 

@@ -1,8 +1,8 @@
 -- `util::offset` meets its contract: a shift of 32 or more leaves nothing of an id. Assumes nothing.
-use borrow.Author.Needs.{needs}
 use mathlib.Core.Path.{sym}
 use native.Mathlib.Nat.{div-eq-of-lt}
 use native.Mathlib.Omega.{arith}
+use borrow.Author.Needs.{needs}
 use lib.Pow.{pow-mono}
 use Rattle.util.proofs.offset.Statement.{statement}
 use Rattle.util.proofs.offset.Tie as tie

@@ -1,0 +1,20 @@
+-- `sooner` meets its contract. Assumes nothing.
+use native.Mathlib.Omega.{arith}
+use Rattle.formula_codes.proofs.Answers.{sooner-right, sooner-left, sooner-least}
+use Rattle.formula_codes.proofs.sooner.Statement.{statement}
+use Rattle.formula_codes.proofs.sooner.Tie as tie
+
+returns : tie.Need-returns
+returns c = sooner-right _ _ (c .if1 .taken)
+
+returns-2 : tie.Need-returns-2
+returns-2 c = sooner-left _ _ (c .before .if1 .left) (c .if2 .taken)
+
+returns-3 : tie.Need-returns-3
+returns-3 c = sooner-least _ _ _ (c .before .before .if1 .left) (c .before .if2 .left) (omega (arith, c .if3 .taken))
+
+returns-4 : tie.Need-returns-4
+returns-4 c = sooner-least _ _ _ (c .before .before .if1 .left) (c .before .if2 .left) (omega (arith, c .if3 .left))
+
+pub sooner-spec : {M : Type 1} → statement M
+sooner-spec = tie.close (tie.spec returns returns-2 returns-3 returns-4)

@@ -1,1 +1,0 @@
-// No code: little-endian numbers in lists of bytes.

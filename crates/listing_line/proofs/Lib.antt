@@ -1,0 +1,3 @@
+pub mod Parsing
+pub mod Spelled
+pub mod Meaning

@@ -1,0 +1,83 @@
+-- What each way out of the three calls answers and leaves is what was promised there.
+use mathlib.Core.Bool.{true, false}
+use mathlib.Core.List.{List, zipWith}
+use mathlib.Core.Logic.{_≢_}
+use mathlib.Core.Path.{_≡_, refl, sym, ap, _∙_, subst}
+use Prim.Native.Nat.{ℕ}
+use native.Mathlib.Omega.{arith}
+use borrow.Author.Tests.{eq-eqb, ne-eqb}
+use Rattle.util.specs.Outcome.{Settled, settled}
+use Rattle.util.proofs.Bits.{bit-of-zero}
+use Rattle.store.specs.Answer.{didPaper, does}
+use Rattle.store.specs.Build.{build, layer0}
+use Rattle.store.specs.Layout.{cap, isStore, StoreOf}
+use Rattle.store.specs.Word.{Sound, Words64}
+use Rattle.store.specs.declared.Did.the-variants.{Done, Refused}
+use Rattle.store.proofs.Geometry.{is-store, store-kept}
+use Rattle.ops_word.specs.Op.{opWord}
+use Rattle.ops_merge.specs.Calls.{mergedOf, mergeable, assignOf, Assigned}
+use Rattle.ops_merge.specs.Tree.{Ask, Level}
+use Rattle.ops_merge.proofs.Steps.{top-is}
+use Rattle.ops_merge.proofs.Whole.{top-told, done-merged}
+
+-- a refusal changes nothing
+module _ {op : ℕ} (s t : List ℕ) where
+  refused : {n : ℕ} → Settled didPaper (assignOf op s t) (Refused n) s → Assigned op s t (Refused n) s
+  refused v = record { answer = v .answer; long = refl; names = refl; whole = λ z. v }
+
+  pub first-2 : isStore s ≡ false → Assigned op s t (Refused 2) s
+  unfolding assignOf
+  first-2 h = refused (settled (rw h))
+
+  pub second-2 : {N : ℕ} → StoreOf N s → isStore t ≡ false → Assigned op s t (Refused 2) s
+  unfolding assignOf
+  second-2 z h = refused (settled (rw (is-store z, h)))
+
+  pub differ-5 : {N M : ℕ} → StoreOf N s → StoreOf M t → N ≢ M → Assigned op s t (Refused 5) s
+  unfolding assignOf
+  differ-5 z y n =
+      refused (settled (rw (is-store z, is-store y, ne-eqb (cap s) (cap t) (λ e. n (sym (z .names) ∙ e ∙ y .names)))))
+
+-- what the top word is asked of
+pub ask-top : {N M : ℕ} {s t : List ℕ} → StoreOf N s → StoreOf M t → N ≡ M → Ask s t N 3 0
+ask-top {N} {M} {s} {t} z y e =
+    record { first = z; second = subst (λ (n : ℕ). StoreOf n t) (sym e) y; known = omega (arith, top-is N); small = omega arith }
+
+-- and what it gives
+module _ {op N M : ℕ} {s t : List ℕ} {u : List ℕ} {r : ℕ} (z : StoreOf N s) (y : StoreOf M t) (e : N ≡ M) (ws : Words64 s) (wt : Words64 t) (wu : Words64 u)
+    (v : Level N op s t 3 0 0 1 u r 0) where
+  second : StoreOf N t
+  second = subst (λ (n : ℕ). StoreOf n t) (sym e) y
+
+  caps : cap s ≡ cap t
+  caps = z .names ∙ e ∙ sym (y .names)
+
+  there : StoreOf N u
+  there = store-kept z (v .long) (v .head 0 (omega arith))
+
+  pair : mergeable s t ≡ true
+  unfolding mergeable
+  pair = rw (is-store z, is-store y) (eq-eqb (cap s) (cap t) caps)
+
+  merged : Sound N s → Sound N t → u ≡ mergedOf op s t
+  unfolding mergedOf
+  merged zs zt =
+      let w = subst (λ (k : ℕ). Level N op s t k 0 0 1 u r 0) (sym (top-is N)) v in
+      let d = w .along (top-told N op s t (z .some) (z .most) zs zt) .done 0 refl (bit-of-zero 0) .is in
+      subst (λ (n : ℕ). u ≡ build n (zipWith (opWord op) (layer0 n s) (layer0 n t))) (sym (z .names))
+      (done-merged op z second ws wt zs zt u there wu d)
+
+  pub all-done : Assigned op s t Done u
+  unfolding assignOf
+  all-done =
+      let f = eq-eqb (cap s) (cap t) caps in
+      record {
+        answer = rw (is-store z, is-store y, f);
+        long = v .long;
+        names = v .head 0 (omega arith);
+        whole = λ h.
+            let b = h pair in
+            settled (rw (is-store z, is-store y, f)
+            (ap (λ (l : List ℕ). does l)
+            (sym (merged (subst (λ (n : ℕ). Sound n s) (z .names) (b .0)) (subst (λ (n : ℕ). Sound n t) (y .names ∙ sym e) (b .1))))));
+      }

@@ -1,0 +1,134 @@
+-- Layer 0 of a store is what the search reads; and what its answer says of the members.
+use mathlib.Core.Bool.{Bool, false, cond}
+use mathlib.Core.List.{List, [], _∷_, List·Memᴰ, List·Memᴰ·cases-cons, List·Memᴰ·not-nil}
+use mathlib.Core.List.List·Memᴰ.{List·Memᴰ·head}
+use mathlib.Core.Logic.{_↔_, _≢_, ⊎-elim}
+use mathlib.Core.Path.{_≡_, refl, sym, ap, _∙_, subst}
+use Prim.Native.Nat.{ℕ, suc, _+_, _-_, _/_, _%_, _≤_, _<_}
+use native.Mathlib.Decide.{ℕ-discrete}
+use native.Mathlib.Omega.{arith}
+use lib.ListN.{length, getD, take, drop, length-drop}
+use lib.Seq.{take-all}
+use Rattle.util.specs.Outcome.{Outcome, Settled, settled}
+use Rattle.util.specs.Word.{bit, places, Rising}
+use Rattle.util.proofs.Places.{places-same, places-none, places-in, in-places, places-rising}
+use Rattle.store.specs.Answer.{foundPaper, gives, refuses}
+use Rattle.store.specs.Build.{layer0}
+use Rattle.store.specs.Layout.{maxCap, words, room, layerLen, layerStart, cap, isStore, StoreOf}
+use Rattle.store.specs.Word.{on, Member, Words64}
+use Rattle.store.specs.declared.Found.{Found as Answer}
+use Rattle.store.specs.declared.Found.the-variants.{Refused}
+use Rattle.store.proofs.Build.{word-layer0}
+use Rattle.store.proofs.Geometry.{is-store, store-is, end-step}
+use Rattle.store.proofs.Words.{on-lt}
+use Rattle.set_free.specs.Calls.{searchStart, freeFrom, firstOf, firstFreeOf, LowestFree}
+use Rattle.set_free.specs.Steps.{freeAt, freeIn, Small}
+
+-- ---- layer 0, as the code lends it
+
+module _ {N : ℕ} {s : List ℕ} (z : StoreOf N s) where
+  -- the store ends with the words of layer 0
+  pub words-in : words N ≤ length s
+  unfolding room
+  words-in = omega (arith, z .long, end-step N 0 (omega arith))
+
+  lent : take (length s - (length s - words N)) (drop (length s - words N) s) ≡ layer0 N s
+  unfolding room
+  lent =
+      let a : length s - words N ≡ layerStart N 0 = omega (arith, z .long, end-step N 0 (omega arith)) in
+      take-all (length s - (length s - words N)) (drop (length s - words N) s) (omega (arith, length-drop (length s - words N) s))
+      ∙ ap (λ (x : ℕ). drop x s) a
+
+  pub lent-small : {first : ℕ} → first ≤ maxCap → Small (take (length s - (length s - words N)) (drop (length s - words N) s)) N first
+  unfolding room
+  lent-small h =
+      let n : length (layer0 N s) ≡ layerLen N 0 = length-drop (layerStart N 0) s ∙ omega (arith, z .long, end-step N 0 (omega arith)) in
+      record { most = z .most; first-in = h; long = omega (arith, ap length lent, n, z .most) }
+
+  pub answered : Words64 s → {r : Answer}
+      → Settled foundPaper (firstOf (freeIn (take (length s - (length s - words N)) (drop (length s - words N) s)) N searchStart)) r tt
+      → Settled foundPaper (firstFreeOf s) r tt
+  unfolding firstFreeOf freeFrom on
+  answered small {r} h =
+      subst (λ (o : Outcome (Unit {0})). Settled foundPaper o r tt)
+      (ap firstOf (ap (λ (x : List ℕ). freeIn x N searchStart) lent ∙ ap (λ (n : ℕ). freeIn (layer0 n s) n searchStart) (sym (z .names))
+      ∙ places-same (freeAt (layer0 (cap s) s)) (λ i. 1 - on (cap s) s 0 i) searchStart (cap s - searchStart)
+      (λ i a b. ap (λ (w : ℕ). 1 - bit w (i % 64)) (word-layer0 s (store-is (is-store z)) small (i / 64))))
+      ∙ sym (ap (λ (b : Bool). cond b (firstOf (freeFrom (cap s) s searchStart)) (refuses 2 tt)) (is-store z)))
+      h
+
+pub free-2 : (s : List ℕ) → isStore s ≡ false → Settled foundPaper (firstFreeOf s) (Refused 2) tt
+unfolding firstFreeOf
+free-2 s h = settled (rw h)
+
+-- ---- what the answer says of the members
+
+rising-above : (c : ℕ) (l : List ℕ) (j : ℕ) → Rising c l → List·Memᴰ j l → c ≤ j
+rising-above c [] j r m = absurd (List·Memᴰ·not-nil m)
+rising-above c (x ∷ l) j r m =
+    ⊎-elim (λ (e : j ≡ x). omega (arith, r .0)) (λ t. let u = rising-above (suc x) l j (r .1) t in omega (arith, r .0)) (List·Memᴰ·cases-cons m)
+
+-- the first number of the list is the lowest at which f is not 0
+places-head : (f : ℕ → ℕ) (b n x : ℕ) (l : List ℕ) → places f b n ≡ x ∷ l
+    → (b ≤ x) × (x < b + n) × (f x ≢ 0) × ((j : ℕ) → b ≤ j → j < x → f j ≡ 0)
+places-head f b n x l e =
+    let i = places-in f b n x (subst (List·Memᴰ x) (sym e) (List·Memᴰ·head refl)) in
+    let r = subst (Rising b) e (places-rising f b n) in (
+      i .0,
+      i .1,
+      i .2,
+      λ j a u. zero-at j (λ s. omega (arith, rising-above x (x ∷ l) j (omega arith, r .1) (subst (List·Memᴰ j) e (in-places f b n j a (omega (arith, i .1)) s)))),
+    )
+  where
+    zero-at : (j : ℕ) → (f j ≢ 0 → ⊥) → f j ≡ 0
+    zero-at j n = go (ℕ-discrete (f j) 0)
+      where
+        go : Dec (f j ≡ 0) → f j ≡ 0
+        go (yes z) = z
+        go (no z) = absurd (n z)
+
+module _ (s : List ℕ) (is : StoreOf (cap s) s) where
+  abbrev free : ℕ → ℕ
+  free i = 1 - on (cap s) s 0 i
+
+  held : (j : ℕ) → j < cap s → free j ≡ 0 → Member s j
+  held j l e = record { below = l; held = omega (arith, e, on-lt (cap s) s 0 j) }
+
+  answer-is : firstFreeOf s ≡ firstOf (freeFrom (cap s) s searchStart)
+  unfolding firstFreeOf
+  answer-is = ap (λ (b : Bool). cond b (firstOf (freeFrom (cap s) s searchStart)) (refuses 2 tt)) (is-store is)
+
+  -- THE ANSWER is below N and not a member, and every smaller id from the first on is a member
+  pub free-found : (i : ℕ) → firstFreeOf s ≡ gives i tt → LowestFree s i
+  unfolding freeFrom
+  free-found i e = go (places free searchStart (cap s - searchStart)) refl (sym answer-is ∙ e)
+    where
+      go : (l : List ℕ) → places free searchStart (cap s - searchStart) ≡ l → firstOf l ≡ gives i tt → LowestFree s i
+      go [] q o = absurd (let z : 12 ≡ 0 = ap (λ (x : Outcome (Unit {0})). getD (x .numbers) 0 0) o in omega arith)
+      go (x ∷ l) q o =
+          let z : x ≡ i = ap (λ (x : Outcome (Unit {0})). getD (x .numbers) 1 0) o in
+          let h = places-head free searchStart (cap s - searchStart) x l q in
+          record {
+            from = omega (arith, h .0);
+            below = omega (arith, h .1);
+            free = λ m. h .2 (ap free z ∙ omega (arith, m .held));
+            lowest = λ j a u. held j (omega (arith, h .1)) (h .3 j a (omega arith));
+          }
+
+  -- REFUSAL 12 is given exactly if all ids from the first on are members
+  pub free-none : (firstFreeOf s ≡ refuses 12 tt) ↔ ((j : ℕ) → searchStart ≤ j → j < cap s → Member s j)
+  unfolding freeFrom
+  free-none = (
+    λ e j a u. go (places free searchStart (cap s - searchStart)) refl (sym answer-is ∙ e) j a u,
+    λ h. answer-is ∙ ap firstOf (places-none free searchStart (cap s - searchStart) (λ j a u. omega (arith, h j a (omega arith) .held))),
+  )
+    where
+      go : (l : List ℕ) → places free searchStart (cap s - searchStart) ≡ l → firstOf l ≡ refuses 12 tt
+          → (j : ℕ) → searchStart ≤ j → j < cap s → Member s j
+      go [] q o j a u = at (ℕ-discrete (free j) 0)
+        where
+          at : Dec (free j ≡ 0) → Member s j
+          at (yes z) = held j u z
+          at (no z) =
+              absurd (List·Memᴰ·not-nil (subst (List·Memᴰ j) q (in-places free searchStart (cap s - searchStart) j a (omega arith) z)))
+      go (x ∷ l) q o j a u = absurd (let z : 0 ≡ 12 = ap (λ (x : Outcome (Unit {0})). getD (x .numbers) 0 0) o in omega arith)

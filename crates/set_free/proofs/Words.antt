@@ -1,0 +1,201 @@
+-- Where the search finds the lowest clear bit, and that its answer is the definition's.
+use mathlib.Core.Bool.{cond}
+use mathlib.Core.List.{List}
+use mathlib.Core.Logic.{_≢_}
+use mathlib.Core.Path.{_≡_, sym, ap, ap₂, _∙_, subst}
+use Prim.Native.Nat.{ℕ, _+_, _-_, _*_, _/_, _%_, _^_, _≤_, _<_}
+use native.Mathlib.Decide.{decLt, ℕ-discrete}
+use native.Mathlib.Nat.{div-one}
+use native.Mathlib.Omega.{arith}
+use borrow.Author.Tests.{lt-ltb, le-ltb}
+use lib.Bits.{bitAnd, and-le-l, and-le-r}
+use lib.Count.{trailingZeros}
+use lib.Dec.{ltb}
+use lib.ListN.{length, getD, List·getD-eq-default}
+use lib.Pow.{shr-shr, shr-le}
+use Rattle.util.specs.Outcome.{Settled, settled}
+use Rattle.util.specs.Word.{bit, flip, places}
+use Rattle.util.proofs.Bits.{bit-flip, bit-high, bit-of-zero}
+use Rattle.util.proofs.Places.{Lowest, lowest, places-first, places-none}
+use Rattle.store.specs.Answer.{foundPaper}
+use Rattle.store.specs.Word.{Words64}
+use Rattle.store.specs.declared.Found.the-variants.{At, Refused}
+use Rattle.set_free.specs.Calls.{firstOf}
+use Rattle.set_free.specs.Steps.{full, FullIn, Skipped, Opened, answerOf, freeAt, freeIn}
+
+-- ---- words that are full
+
+-- of two words that are full together each is
+pub and-full : (x y : ℕ) → x ≤ full → y ≤ full → bitAnd x y ≡ full → (x ≡ full) × (y ≡ full)
+and-full x y hx hy e = (omega (arith, and-le-l x y), omega (arith, and-le-r x y))
+
+-- some words more, or one
+full-more : (ws : List ℕ) (q r m : ℕ) → FullIn ws q r → FullIn ws r m → FullIn ws q m
+full-more ws q r m h g i a b = go (decLt i r)
+  where
+    go : Dec (i < r) → getD ws i 0 ≡ full
+    go (yes l) = h i a l
+    go (no l) = g i (omega arith) b
+
+full-one : (ws : List ℕ) (q r : ℕ) → FullIn ws q r → getD ws r 0 ≡ full → FullIn ws q (r + 1)
+full-one ws q r h e = full-more ws q r (r + 1) h (λ i a b. let z : i ≡ r = omega arith in ap (λ (j : ℕ). getD ws j 0) z ∙ e)
+
+pub full-four : (ws : List ℕ) (i : ℕ) → Words64 ws
+    → bitAnd (bitAnd (bitAnd (getD ws i 0) (getD ws (i + 1) 0)) (getD ws (i + 2) 0)) (getD ws (i + 3) 0) ≡ full → FullIn ws i (i + 4)
+full-four ws i small e =
+    let w0 : ℕ = getD ws i 0 in
+    let w1 : ℕ = getD ws (i + 1) 0 in
+    let w2 : ℕ = getD ws (i + 2) 0 in
+    let w3 : ℕ = getD ws (i + 3) 0 in
+    let s = small i in
+    let l1 : bitAnd w0 w1 ≤ full = omega (arith, and-le-l w0 w1) in
+    let l2 : bitAnd (bitAnd w0 w1) w2 ≤ full = omega (arith, and-le-l (bitAnd w0 w1) w2) in
+    let a = and-full (bitAnd (bitAnd w0 w1) w2) w3 l2 (omega (arith, small (i + 3))) e in
+    let b = and-full (bitAnd w0 w1) w2 l1 (omega (arith, small (i + 2))) (a .0) in
+    let c = and-full w0 w1 (omega arith) (omega (arith, small (i + 1))) (b .0) in
+    λ j u v. at j (c .0) (c .1) (b .1) (a .1) u v (ℕ-discrete j i) (ℕ-discrete j (i + 1)) (ℕ-discrete j (i + 2))
+  where
+    at : (j : ℕ) → getD ws i 0 ≡ full → getD ws (i + 1) 0 ≡ full → getD ws (i + 2) 0 ≡ full → getD ws (i + 3) 0 ≡ full → i ≤ j → j < i + 4
+        → Dec (j ≡ i) → Dec (j ≡ i + 1) → Dec (j ≡ i + 2) → getD ws j 0 ≡ full
+    at j e0 e1 e2 e3 u v (yes z) d2 d3 = ap (λ (x : ℕ). getD ws x 0) z ∙ e0
+    at j e0 e1 e2 e3 u v (no n) (yes z) d3 = ap (λ (x : ℕ). getD ws x 0) z ∙ e1
+    at j e0 e1 e2 e3 u v (no n) (no m) (yes z) = ap (λ (x : ℕ). getD ws x 0) z ∙ e2
+    at j e0 e1 e2 e3 u v (no n) (no m) (no k) = let z : j ≡ i + 3 = omega arith in ap (λ (x : ℕ). getD ws x 0) z ∙ e3
+
+pub skipped-start : (ws : List ℕ) (q : ℕ) → Skipped ws q q
+skipped-start ws q = record { from = omega arith; upto = omega arith; passed = λ i a b. absurd (omega arith) }
+
+module _ {ws : List ℕ} {q r : ℕ} (h : Skipped ws q r) where
+  pub skipped-one : r < length ws → getD ws r 0 ≡ full → Skipped ws q (r + 1)
+  skipped-one l e = record { from = omega (arith, h .from); upto = omega arith; passed = full-one ws q r (h .passed) e }
+
+  pub skipped-eight : r + 8 ≤ length ws → FullIn ws r (r + 4) → FullIn ws (r + 4) (r + 4 + 4) → Skipped ws q (r + 8)
+  skipped-eight l a b =
+      let z : r + 4 + 4 ≡ r + 8 = omega arith in
+      record {
+        from = omega (arith, h .from);
+        upto = omega arith;
+        passed = full-more ws q (r + 4) (r + 8) (full-more ws q r (r + 4) (h .passed) a) (subst (FullIn ws (r + 4)) z b);
+      }
+
+  -- at the end there is no word, and 0 is not full
+  pub opened-end : length ws ≤ r → Opened ws q r
+  opened-end l = record { skipped = h; some = λ e. omega (arith, sym (List·getD-eq-default ws 0 l) ∙ e) }
+
+-- ---- the ids of a word
+
+-- the complement of word q, shifted by t: bit j of it tells whether id 64 q + t + j is free
+bit-shift : (w t j : ℕ) → bit (w / 2 ^ t) j ≡ bit w (t + j)
+unfolding bit
+bit-shift w t j = ap (λ (x : ℕ). x % 2) (shr-shr w t j)
+
+module _ (ws : List ℕ) (q t : ℕ) (h : t < 64) (small : getD ws q 0 ≤ full) where
+  abbrev left : ℕ
+  left = flip (getD ws q 0) / 2 ^ t
+
+  left-small : left ≤ full
+  left-small = omega (arith, shr-le (flip (getD ws q 0)) t)
+
+  free-bit : (j : ℕ) → t + j < 64 → freeAt ws (64 * q + t + j) ≡ bit left j
+  free-bit j l =
+      let d : (64 * q + t + j) / 64 ≡ q = omega arith in
+      let m : (64 * q + t + j) % 64 ≡ t + j = omega arith in
+      ap₂ (λ (x y : ℕ). 1 - bit (getD ws x 0) y) d m
+      ∙ sym (bit-shift (flip (getD ws q 0)) t j ∙ bit-flip (getD ws q 0) (t + j) (omega arith) l)
+
+  -- none is free in a word of which nothing is left
+  none-left : left ≡ 0 → (i : ℕ) → 64 * q + t ≤ i → i < 64 * q + 64 → freeAt ws i ≡ 0
+  none-left e i a b =
+      let z : 64 * q + t + (i - (64 * q + t)) ≡ i = omega arith in
+      ap (freeAt ws) (sym z) ∙ free-bit (i - (64 * q + t)) (omega arith) ∙ ap (λ (x : ℕ). bit x (i - (64 * q + t))) e ∙ bit-of-zero (i - (64 * q + t))
+
+  -- the first free id is at the lowest bit of what is left
+  record First (b : ℕ) : Type 0 where
+    inside : t + b < 64
+    free : freeAt ws (64 * q + t + b) ≢ 0
+    taken : (i : ℕ) → 64 * q + t ≤ i → i < 64 * q + t + b → freeAt ws i ≡ 0
+
+  first-left : left ≢ 0 → First (trailingZeros 64 left)
+  first-left n =
+      let z = lowest left (omega (arith, left-small)) (omega arith) in
+      go (trailingZeros 64 left) z (decLt (t + trailingZeros 64 left) 64)
+    where
+      go : (b : ℕ) → Lowest left b → Dec (t + b < 64) → First b
+      go b z (yes l) =
+          record {
+            inside = l;
+            free = λ e. omega (arith, sym (free-bit b l) ∙ e, z .on);
+            taken = λ i a u.
+                let y : 64 * q + t + (i - (64 * q + t)) ≡ i = omega arith in
+                ap (freeAt ws) (sym y) ∙ free-bit (i - (64 * q + t)) (omega arith) ∙ z .first (i - (64 * q + t)) (omega arith);
+          }
+      go b z (no l) =
+          absurd (omega (arith, sym (z .on) ∙ bit-shift (flip (getD ws q 0)) t b ∙ bit-high 64 (flip (getD ws q 0)) (t + b) (omega arith) (omega arith)))
+
+-- ---- the answer
+
+-- id p is free and none before it from `first` on
+found-at : (f : ℕ → ℕ) (n first p : ℕ) → first ≤ p → ((i : ℕ) → first ≤ i → i < p → f i ≡ 0) → f p ≢ 0
+    → Settled foundPaper (firstOf (places f first (n - first))) (answerOf n p) tt
+unfolding answerOf
+found-at f n first p l zeros some = go (decLt p n)
+  where
+    go : Dec (p < n) → Settled foundPaper (firstOf (places f first (n - first))) (cond (ltb p n) (At p) (Refused 12)) tt
+    go (yes h) =
+        rw (lt-ltb p n h) (settled (ap firstOf (places-first f first p (n - first) l (omega arith) zeros some)))
+    go (no h) = rw (le-ltb p n (omega arith)) (settled (ap firstOf (places-none f first (n - first) (λ i a b. zeros i a (omega arith)))))
+
+module _ (ws : List ℕ) (n first : ℕ) where
+  abbrev q : ℕ
+  q = first / 64
+
+  abbrev t : ℕ
+  t = first % 64
+
+  here : 64 * q + t ≡ first
+  here = omega arith
+
+  -- in the word of the first id
+  pub own-word : (w : ℕ) → w ≡ getD ws (first / 64) 0 → w ≤ full → (full - w) / 2 ^ (first % 64) ≢ 0
+      → Settled foundPaper (firstOf (freeIn ws n first)) (answerOf n (first + trailingZeros 64 ((full - w) / 2 ^ (first % 64)))) tt
+  own-word w w-is small some = rw w-is (go (λ e. some (ap (λ (x : ℕ). (full - x) / 2 ^ t) w-is ∙ e)) (omega arith))
+    where
+      go : (full - getD ws q 0) / 2 ^ t ≢ 0 → getD ws q 0 ≤ full
+          → Settled foundPaper (firstOf (freeIn ws n first)) (answerOf n (first + trailingZeros 64 ((full - getD ws q 0) / 2 ^ t))) tt
+      go some small =
+          let l = first-left ws q t (omega arith) small some in
+          let b : ℕ = trailingZeros 64 ((full - getD ws q 0) / 2 ^ t) in
+          found-at (freeAt ws) n first (first + b) (omega arith) (λ i a u. l .taken i (omega (arith, here)) (omega (arith, here)))
+          (λ e. l .free (ap (λ (x : ℕ). freeAt ws (x + b)) here ∙ e))
+
+  -- in the next word that is not full
+  pub next-word : (w p v : ℕ) → w ≡ getD ws (first / 64) 0 → w ≤ full → (full - w) / 2 ^ (first % 64) ≡ 0
+      → Opened ws (first / 64 + 1) p → v ≡ getD ws p 0 → v ≤ full
+      → Settled foundPaper (firstOf (freeIn ws n first)) (answerOf n (64 * p + trailingZeros 64 (full - v))) tt
+  next-word w p v w-is small none o v-is small-v = rw v-is (go (omega arith) (λ e. o .some (omega arith)))
+    where
+      full-id : (i : ℕ) → getD ws (i / 64) 0 ≡ full → freeAt ws i ≡ 0
+      full-id i e =
+          let d : 64 * (i / 64) + 0 ≤ i = omega arith in
+          none-left ws (i / 64) 0 (omega arith) (omega arith) (ap (λ (x : ℕ). flip x / 2 ^ 0) e) i d (omega arith)
+
+      before : (i : ℕ) → first ≤ i → i < 64 * p → Dec (i < 64 * q + 64) → freeAt ws i ≡ 0
+      before i a u (yes l) =
+          none-left ws q t (omega arith) (omega (arith, w-is)) (ap (λ (x : ℕ). (full - x) / 2 ^ t) (sym w-is) ∙ none) i (omega (arith, here)) l
+      before i a u (no l) = full-id i (o .skipped .passed (i / 64) (omega arith) (omega arith))
+
+      at : (b : ℕ) → ((i : ℕ) → 64 * p + 0 ≤ i → i < 64 * p + 0 + b → freeAt ws i ≡ 0) → (i : ℕ) → first ≤ i → i < 64 * p + b → Dec (i < 64 * p) → freeAt ws i ≡ 0
+      at b taken i a u (yes l) = before i a l (decLt i (64 * q + 64))
+      at b taken i a u (no l) = taken i (omega arith) (omega arith)
+
+      go : getD ws p 0 ≤ full → full - getD ws p 0 ≢ 0
+          → Settled foundPaper (firstOf (freeIn ws n first)) (answerOf n (64 * p + trailingZeros 64 (full - getD ws p 0))) tt
+      go small some =
+          let z : (full - getD ws p 0) / 2 ^ 0 ≡ full - getD ws p 0 = div-one (full - getD ws p 0) in
+          let b : ℕ = trailingZeros 64 (full - getD ws p 0) in
+          let l : First ws p 0 (omega arith) small b =
+          subst (λ (x : ℕ). First ws p 0 (omega arith) small (trailingZeros 64 x)) z (first-left ws p 0 (omega arith) small (λ e. some (sym z ∙ e))) in
+          let y : 64 * p + 0 ≡ 64 * p = omega arith in
+          found-at (freeAt ws) n first (64 * p + b) (omega (arith, o .skipped .from))
+          (λ i a u. at b (l .taken) i a u (decLt i (64 * p)))
+          (λ e. l .free (ap (λ (x : ℕ). freeAt ws (x + b)) y ∙ e))

@@ -1,0 +1,62 @@
+-- `first_free` meets its contract: layer 0 is lent to the search. Assumes nothing.
+use native.Mathlib.Omega.{arith}
+use borrow.Author.Needs.{needs}
+use Rattle.store.specs.Layout.{StoreOf}
+use Rattle.store.proofs.Ends.{some-store, no-store}
+use Rattle.set_free.proofs.Lowest.{words-in, lent-small, answered, free-2}
+use Rattle.set_free.proofs.first_free.Statement.{statement}
+use Rattle.set_free.proofs.first_free.Tie as tie
+
+capacity-requires : tie.Need-capacity-requires
+capacity-requires c κs = search needs
+
+returns : tie.Need-returns
+returns c =
+    let y = c .before in
+    let s = y .before .before .args .store .now in
+    free-2 s (no-store s (y .capacity .ensures) (c .if1 .taken))
+
+-- past the test the slice is a store
+store-here : (c : tie.Else1) → StoreOf (c .before .capacity .result) (c .before .before .before .args .store .now)
+store-here c = some-store (c .before .before .before .args .store .now) (c .before .capacity .ensures) (c .if1 .left)
+
+add-a : tie.Need-add-a
+add-a c = omega (arith, store-here c .most)
+
+sub-a : tie.Need-sub-a
+sub-a c = words-in (store-here c)
+
+mul-search : tie.Need-mul-search
+mul-search c = search needs
+
+sub-search : tie.Need-sub-search
+sub-search c = search needs
+
+part-search-start : tie.Need-part-search-start
+part-search-start c = search needs
+
+part-search-end : tie.Need-part-search-end
+part-search-end c = search needs
+
+search-requires : tie.Need-search-requires
+search-requires c κs = lent-small (store-here (c .before)) (omega arith)
+
+returns-2 : tie.Need-returns-2
+returns-2 c =
+    let d = c .before .before in
+    answered (store-here d) (λ i. d .before .before .shared-slice-known .given i .fits) (c .search .ensures)
+
+pub first-free-spec : {M : Type 1} → statement M
+first-free-spec =
+    tie.close
+    (tie.spec
+    capacity-requires
+    returns
+    add-a
+    sub-a
+    mul-search
+    sub-search
+    part-search-start
+    part-search-end
+    search-requires
+    returns-2)

@@ -1,0 +1,93 @@
+-- What each way out of the code answers is what the definition answers there.
+use mathlib.Core.Bool.{true, false, Bool}
+use mathlib.Core.List.{List}
+use mathlib.Core.Logic.{_≢_}
+use mathlib.Core.Path.{_≡_, sym, ap, _∙_}
+use Prim.Native.Nat.{ℕ, suc, _+_, _-_}
+use native.Mathlib.Omega.{arith}
+use borrow.Author.Tests.{eq-eqb, ne-eqb}
+use lib.Dec.{eqb}
+use lib.ListN.{length, getD, set, replicate}
+use Rattle.util.specs.Outcome.{Settled, settled}
+use Rattle.util.specs.Word.{same}
+use Rattle.store.specs.Answer.{askedPaper, didPaper, does}
+use Rattle.store.specs.Build.{empty}
+use Rattle.store.specs.Layout.{top, isCap, layerEnd, storeLen, isStore, StoreOf, endOf}
+use Rattle.store.specs.Word.{word}
+use Rattle.store.specs.declared.Asked.the-variants.{Is, Refused as AskedRefused}
+use Rattle.store.specs.declared.Did.the-variants.{Done, Refused as DidRefused}
+use Rattle.store.proofs.Ends.{end-is, end-cap}
+use Rattle.store.proofs.Geometry.{is-store, after-header, room-falls}
+use Rattle.store.proofs.Words.{word-in}
+use Rattle.set_whole.specs.Calls.{openOf, clearOf, isEmptyOf, equalOf}
+
+-- zeros, with the capacity in word 0, are the empty store
+pub empty-is : (N n : ℕ) → n ≡ storeLen N → set (replicate n 0) 0 N ≡ empty N
+empty-is N n h =
+    let e : n ≡ suc (storeLen N - 1) = omega (arith, after-header N 0) in
+    ap (λ (x : ℕ). set (replicate x 0) 0 N) e
+
+-- ---- open
+
+module _ (s : List ℕ) (N : ℕ) where
+  pub open-1 : isCap N ≡ false → Settled didPaper (openOf s N) (DidRefused 1) s
+  unfolding openOf
+  open-1 h = settled (rw h)
+
+  module _ (h : isCap N ≡ true) where
+    pub open-2 : length s ≢ endOf N 0 → Settled didPaper (openOf s N) (DidRefused 2) s
+    unfolding openOf
+    open-2 n = settled (rw (h, ne-eqb (length s) (storeLen N) (λ q. n (q ∙ sym (end-cap N 0 h)))))
+
+    pub open-done : (t : List ℕ) → length s ≡ endOf N 0 → t ≡ set (replicate (length s) 0) 0 N → Settled didPaper (openOf s N) Done t
+    unfolding openOf
+    open-done t l e =
+        let long : length s ≡ storeLen N = l ∙ end-cap N 0 h in
+        settled (rw (h, eq-eqb (length s) (storeLen N) long) (ap does (sym (e ∙ empty-is N (length s) long))))
+
+-- ---- clear, is_empty
+
+module _ (s : List ℕ) (h : isStore s ≡ false) where
+  pub clear-2 : Settled didPaper (clearOf s) (DidRefused 2) s
+  unfolding clearOf
+  clear-2 = settled (rw h)
+
+  pub is-empty-2 : Settled askedPaper (isEmptyOf s) (AskedRefused 2) tt
+  unfolding isEmptyOf
+  is-empty-2 = settled (rw h)
+
+module _ {N : ℕ} {s : List ℕ} (z : StoreOf N s) where
+  pub clear-done : (t : List ℕ) → t ≡ set (replicate (length s) 0) 0 N → Settled didPaper (clearOf s) Done t
+  unfolding clearOf
+  clear-done t e = settled (rw (is-store z, z .names) (ap does (sym (e ∙ empty-is N (length s) (z .long)))))
+
+  -- the code reads the top layer's word, which stands behind the header
+  pub is-empty-is : (a w : ℕ) → a ≡ endOf N 4 → w ≡ getD s a 0 → Settled askedPaper (isEmptyOf s) (Is (eqb w 0)) tt
+  unfolding isEmptyOf top
+  is-empty-is a w a-is w-is =
+      let e : a ≡ layerEnd N 4 + 0 = omega (arith, a-is, end-is N 4 (z .some) (z .most)) in
+      let q : word N s 3 0 ≡ w = word-in N s 3 0 (omega (arith, room-falls N 4 (z .some))) ∙ sym (w-is ∙ ap (λ (x : ℕ). getD s x 0) e) in
+      settled (rw (is-store z, z .names, q))
+
+-- ---- equal
+
+pub equal-first-2 : (s : List ℕ) → isStore s ≡ false → (t : List ℕ) → Settled askedPaper (equalOf s t) (AskedRefused 2) tt
+unfolding equalOf
+equal-first-2 s h t = settled (rw h)
+
+module _ {N : ℕ} {s : List ℕ} (z : StoreOf N s) where
+  pub equal-second-2 : (t : List ℕ) → isStore t ≡ false → Settled askedPaper (equalOf s t) (AskedRefused 2) tt
+  unfolding equalOf
+  equal-second-2 t h = settled (rw (is-store z, h))
+
+  module _ {M : ℕ} {t : List ℕ} (y : StoreOf M t) where
+    pub equal-5 : N ≢ M → Settled askedPaper (equalOf s t) (AskedRefused 5) tt
+    unfolding equalOf
+    equal-5 n = settled (rw (is-store z, is-store y, z .names, y .names, ne-eqb N M n))
+
+    pub equal-is : (r : Bool) → N ≡ M → r ≡ same s t → Settled askedPaper (equalOf s t) (Is r) tt
+    unfolding equalOf
+    equal-is r e q = settled (rw (is-store z, is-store y, z .names, y .names, eq-eqb N M e, ← q))
+
+    pub same-long : N ≡ M → length s ≡ length t
+    same-long e = z .long ∙ ap storeLen e ∙ sym (y .long)

@@ -1,3 +1,0 @@
-pub mod Last
-pub mod Answers
-pub mod Said
