@@ -1,16 +1,27 @@
-# The two commands of a fresh machine with the Rattle kit.
+# The commands of a machine with the Rattle kit.
 
 # Lines for the listing program: its sample, or the file that IN names.
 IN ?= crates/listing/stdin
 
+# Where to install; DESTDIR, where it is given, stands before it.
+PREFIX ?= /usr/local
+
 # Builds the listing program from proved crates and runs it.
 run:
-	@echo 'proving listing and what it stands on: target/build.log' >&2
-	@mkdir -p target && rt check listing >target/build.log 2>&1 || { cat target/build.log; exit 1; }
+	@echo 'proving listing and the crates that it stands on: target/build.log' >&2
+	@tools/proving target/build.log rt check listing
 	@tools/run listing <$(IN)
 
 # The gate: formatting, proofs, must-fail edits, programs, comparison with the Rust.
 test:
 	@bash .ci/run
 
-.PHONY: run test
+# Proves the calls for C and makes target/libfendruscla.a of them.
+archive:
+	@tools/archive
+
+# The header, the archive, fendruscla.pc and the licences.
+install: archive
+	@PREFIX='$(PREFIX)' DESTDIR='$(DESTDIR)' tools/install
+
+.PHONY: run test archive install

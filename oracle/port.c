@@ -265,6 +265,12 @@ static bool three(uint64_t a, uint64_t b, uint64_t c) { two(a, b); said[2] = c; 
 
 static bool told(fen_answer a) { return a.refusal ? one(a.refusal) : two(0, a.value); }
 static bool stepped(fen_step s, const fen_cursor *c) { return s.which == FEN_REFUSED ? one(s.value) : three(s.which, s.value, c->reads); }
+/* A line says 1 for a full batch; a fill never answers FEN_MEMBER, and 4 would say that it did. */
+static bool filled(fen_step s, const fen_cursor *c)
+{
+    s.which = s.which == FEN_FULL ? FEN_MEMBER : s.which == FEN_MEMBER ? FEN_FULL : s.which;
+    return stepped(s, c);
+}
 
 /* ---- the commands, each by the call that it names */
 
@@ -328,18 +334,18 @@ static bool c_xor(line *l) { return !unsound(l->s[0]) && !unsound(l->s[1]) && to
 
 static bool c_start(line *l) { return stepped(fen_start(S(0), l->cursor), l->cursor); }
 static bool c_next(line *l) { return stepped(fen_next(S(0), l->cursor, l->n[2]), l->cursor); }
-static bool c_fill(line *l) { return stepped(fen_fill(S(0), l->cursor, l->n[2], IDS), l->cursor); }
+static bool c_fill(line *l) { return filled(fen_fill(S(0), l->cursor, l->n[2], IDS), l->cursor); }
 static bool c_first(line *l) { fen_cursor c; return stepped(fen_probe_first(S(0), l->n[1], &c.reads), &c); }
 
-static bool c_write(line *l) { return told(fen_write(S(0), BYTES)); }
-static bool c_read(line *l) { return told(fen_read(BYTES, S(0))); }
+static bool c_write(line *l) { return told(fen_map_write(S(0), BYTES)); }
+static bool c_read(line *l) { return told(fen_map_read(BYTES, S(0))); }
 
 static bool c_fempty(line *l) { return told(fen_formula_is_empty(FORMULA)); }
 static bool c_fcontain(line *l) { return told(fen_formula_contains(FORMULA, id(l->n[5]))); }
 static bool c_fword(line *l) { return told(fen_formula_get_from_layer(FORMULA, l->n[5], l->n[6])); }
 static bool c_fstart(line *l) { return stepped(fen_formula_start(FORMULA, l->cursor), l->cursor); }
 static bool c_fnext(line *l) { return stepped(fen_formula_next(FORMULA, l->cursor, l->n[6]), l->cursor); }
-static bool c_ffill(line *l) { return stepped(fen_formula_fill(FORMULA, l->cursor, l->n[6], IDS), l->cursor); }
+static bool c_ffill(line *l) { return filled(fen_formula_fill(FORMULA, l->cursor, l->n[6], IDS), l->cursor); }
 
 /* A word, a letter for each number of its line, and the function. */
 typedef struct command { const char *word, *letters; bool (*call)(line *); } command;

@@ -12,8 +12,8 @@ static uint64_t taken[WORDS], preview[WORDS], loaded[WORDS];
 
 static uint64_t value(fen_answer answer)
 {
-    if (answer.refusal != 0) {
-        printf("refused %" PRIu64 "\n", answer.refusal);
+    if (answer.refusal != FEN_OK) {
+        printf("refused: %s\n", fen_refusal_text(answer.refusal));
         exit(1);
     }
     return answer.value;
@@ -34,12 +34,11 @@ int main(void)
     const uint32_t picture[] = {3, 4, 5, 70, 71, 999}, thumbnail[] = {70, 71};
     const uint8_t rest[] = {0, 1, FEN_NOT, FEN_AND};
     uint32_t ids[4];
-    uint8_t map[256];
+    uint8_t map[FEN_MAP_MAX(CHUNKS)];
     fen_cursor at = {0};
 
     value(fen_open(taken, WORDS, CHUNKS));
     value(fen_open(preview, WORDS, CHUNKS));
-    value(fen_open(loaded, WORDS, CHUNKS));
     value(fen_add_list(taken, WORDS, picture, 6));
     value(fen_add_list(preview, WORDS, thumbnail, 2));
 
@@ -47,7 +46,7 @@ int main(void)
     uint64_t chunk = value(fen_first_free(taken, WORDS));
     value(fen_add(taken, WORDS, (uint32_t)chunk));
     printf("chunk %" PRIu64 " was the first free one\n", chunk);
-    printf("chunk 1000: refusal %" PRIu64 "\n", fen_add(taken, WORDS, CHUNKS).refusal);
+    printf("chunk 1000: %s\n", fen_refusal_text(fen_add(taken, WORDS, CHUNKS).refusal));
 
     /* The directory: at most four chunks and three word reads a call. */
     printf("directory:");
@@ -55,12 +54,16 @@ int main(void)
     while (printed(fen_fill(taken, WORDS, &at, 3, ids, 4), ids)) {}
 
     /* Taken and not of the preview; stores 2 and 3 are not lent. */
+    const fen_formula others = {rest, 4, {taken, preview, NULL, NULL}, {WORDS, WORDS, 0, 0}};
     printf("\nwithout the preview:");
-    fen_formula_start(rest, 4, taken, WORDS, preview, WORDS, taken, 0, taken, 0, &at);
-    while (printed(fen_formula_fill(rest, 4, taken, WORDS, preview, WORDS, taken, 0, taken, 0, &at, 3, ids, 4), ids)) {}
+    fen_over_start(&others, &at);
+    while (printed(fen_over_fill(&others, &at, 3, ids, 4), ids)) {}
 
-    uint64_t length = value(fen_write(taken, WORDS, map, sizeof map));
-    value(fen_read(map, length, loaded, WORDS));
+    /* The map, and a store of the capacity that it names. */
+    uint64_t length = value(fen_map_write(taken, WORDS, map, sizeof map));
+    uint64_t chunks = value(fen_map_capacity(map, length));
+    value(fen_open(loaded, fen_words(chunks), (uint32_t)chunks));
+    value(fen_map_read(map, length, loaded, fen_words(chunks)));
     printf("\na map of %" PRIu64 " bytes, read back: %s\n", length, value(fen_equal(taken, WORDS, loaded, WORDS)) ? "the same" : "another");
     return 0;
 }

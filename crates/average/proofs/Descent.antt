@@ -5,13 +5,13 @@ use native.Mathlib.Nat.{suc-mul, add-mul, mul-add, lt-of-not-le, mul-le-mul-righ
 use native.Mathlib.Omega.{arith}
 use lib.Bits.{bitAnd}
 use lib.Count.{ones}
-use Rattle.average.specs.Search.{tally, above, Within, Step}
+use Rattle.average.specs.Search.{tally, bitsAbove, InRange, HalfStep}
 use Rattle.average.specs.declared.Search.{Search}
 use Rattle.average.proofs.Tally.{above-split, field-masked}
 
-module _ (n t : ℕ) (s : Search) (child k mask : ℕ) (g : Step n t s child k mask) where
+module _ (n t : ℕ) (s : Search) (child k mask : ℕ) (g : HalfStep n t s child k mask) where
   -- the child's field below place r, where r is suc f times k + k, has the count of the upper half
-  upper : (r f : ℕ) → r ≡ suc f * (k + k) → r ≤ 64 → above n r + bitAnd (child / 2 ^ (r - k)) mask ≡ above n (r - k)
+  upper : (r f : ℕ) → r ≡ suc f * (k + k) → r ≤ 64 → bitsAbove n r + bitAnd (child / 2 ^ (r - k)) mask ≡ bitsAbove n (r - k)
   upper r f e l =
       let i : ℕ = suc (f + f) in
       let at : r ≡ i * k + k = e ∙ omega (arith, mul-add (suc f) k k, suc-mul f k, suc-mul (f + f) k, add-mul f f k) in
@@ -22,10 +22,10 @@ module _ (n t : ℕ) (s : Search) (child k mask : ℕ) (g : Step n t s child k m
       ap₂ (λ (x y : ℕ). bitAnd (x / 2 ^ (r - k)) y) (g .child-is) (g .mask-is)
       ∙ ap (λ (x : ℕ). bitAnd (tally k (g .fields) n / 2 ^ x) (2 ^ g .bits - 1)) below
       ∙ field-masked k (g .fields) i n (g .bits) inside (g .narrow) (g .wide) in
-      ap₂ (λ (x y : ℕ). above n x + y) at taken ∙ sym (above-split n (i * k) k) ∙ ap (above n) (sym below)
+      ap₂ (λ (x y : ℕ). bitsAbove n x + y) at taken ∙ sym (above-split n (i * k) k) ∙ ap (bitsAbove n) (sym below)
 
   pub to-lower : s .cur < s .target
-      → Within n t k (record { result = s .result - 2 * k; target = s .target - s .cur; cur = bitAnd (child / 2 ^ (s .result - 2 * k - k)) mask })
+      → InRange n t k (record { result = s .result - 2 * k; target = s .target - s .cur; cur = bitAnd (child / 2 ^ (s .result - 2 * k - k)) mask })
   to-lower h =
       let a = g .from in
       let f : ℕ = a .field in
@@ -36,13 +36,13 @@ module _ (n t : ℕ) (s : Search) (child k mask : ℕ) (g : Step n t s child k m
         field = f + f;
         aligned = al;
         inside = omega (arith, a .inside);
-        target-is = omega (arith, ap (above n) here, a .cur-is, a .target-is);
+        target-is = omega (arith, ap (bitsAbove n) here, a .cur-is, a .target-is);
         target-pos = omega arith;
         cur-is = upper (s .result - 2 * k) (f + f) al (omega (arith, a .inside));
-        reach = subst (λ (x : ℕ). t ≤ above n x) (omega arith) (a .reach);
+        reach = subst (λ (x : ℕ). t ≤ bitsAbove n x) (omega arith) (a .reach);
       }
 
-  pub to-upper : s .target ≤ s .cur → Within n t k (record { result = s .result; target = s .target; cur = bitAnd (child / 2 ^ (s .result - k)) mask })
+  pub to-upper : s .target ≤ s .cur → InRange n t k (record { result = s .result; target = s .target; cur = bitAnd (child / 2 ^ (s .result - k)) mask })
   to-upper h =
       let a = g .from in
       let f : ℕ = a .field in

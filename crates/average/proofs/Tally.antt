@@ -9,7 +9,7 @@ use lib.Arith.{digits-div, digits-mod, digits-lt, lt-one}
 use lib.Bits.{bitAnd, and-block, and-mask, and-zero-r, and-le-l}
 use lib.Count.{ones, ones-cat, ones-le}
 use lib.Pow.{pow-pos, pow-add, pow-mono, shr-shr, mod-pow-add, mod-mod-pow, split}
-use Rattle.average.specs.Search.{tally, above}
+use Rattle.average.specs.Search.{tally, bitsAbove}
 
 -- ---- the count of one field
 
@@ -35,16 +35,16 @@ two-fields k x =
     sym (ones-cat k (x / 2 ^ k % 2 ^ k) (x % 2 ^ k) (mod-lt x (pow-pos k))) ∙ ap ones (sym (mod-pow-add x k k))
 
 -- the set bits at or above a place: those k higher, and those of the field between
-pub above-split : (n p k : ℕ) → above n p ≡ above n (p + k) + ones (n / 2 ^ p % 2 ^ k)
+pub above-split : (n p k : ℕ) → bitsAbove n p ≡ bitsAbove n (p + k) + ones (n / 2 ^ p % 2 ^ k)
 above-split n p k =
     ap ones (sym (split (n / 2 ^ p) k))
     ∙ ones-cat k (n / 2 ^ p / 2 ^ k) (n / 2 ^ p % 2 ^ k) (mod-lt (n / 2 ^ p) (pow-pos k))
     ∙ ap (λ (x : ℕ). ones x + ones (n / 2 ^ p % 2 ^ k)) (shr-shr n p k)
 
-pub above-step : (n p : ℕ) → above n p ≡ above n (suc p) + n / 2 ^ p % 2
+pub above-step : (n p : ℕ) → bitsAbove n p ≡ bitsAbove n (suc p) + n / 2 ^ p % 2
 above-step n p =
     above-split n p 1
-    ∙ ap₂ (λ (x y : ℕ). above n x + y) (add-one p) (bit-count (n / 2 ^ p % 2) (mod-lt (n / 2 ^ p) (pow-pos 1)))
+    ∙ ap₂ (λ (x y : ℕ). bitsAbove n x + y) (add-one p) (bit-count (n / 2 ^ p % 2) (mod-lt (n / 2 ^ p) (pow-pos 1)))
 
 -- ---- the counts of all fields
 
@@ -102,8 +102,8 @@ twice zero = zero
 twice (suc m) = suc (suc (twice m))
 
 -- two fields u and v of k bits, u the upper one, below y
-abbrev pub joined : ℕ → ℕ → ℕ → ℕ → ℕ
-joined k y u v = (y * 2 ^ k + u) * 2 ^ k + v
+abbrev pub joinedTallies : ℕ → ℕ → ℕ → ℕ → ℕ
+joinedTallies k y u v = (y * 2 ^ k + u) * 2 ^ k + v
 
 -- the mask of the lower of each two fields, m times
 unfoldable pub lower : ℕ → ℕ → ℕ
@@ -112,7 +112,7 @@ lower k (suc m) = lower k m * 2 ^ (k + k) + (2 ^ k - 1)
 
 -- what adds two fields at the bottom and goes on above them turns counts of fields into those of fields twice as wide
 module _ (k : ℕ) (F : ℕ → ℕ → ℕ) (none : F zero 0 ≡ 0)
-    (two : (m y u v : ℕ) → u ≤ k → v ≤ k → y % 2 ^ k ≤ k → F (suc m) (joined k y u v) ≡ F m y * 2 ^ (k + k) + (u + v)) where
+    (two : (m y u v : ℕ) → u ≤ k → v ≤ k → y % 2 ^ k ≤ k → F (suc m) (joinedTallies k y u v) ≡ F m y * 2 ^ (k + k) + (u + v)) where
   pub widened : (m n : ℕ) → F m (tally k (twice m) n) ≡ tally (k + k) m n
   unfolding tally twice
   widened zero n = none
@@ -122,19 +122,19 @@ module _ (k : ℕ) (F : ℕ → ℕ → ℕ) (none : F zero 0 ≡ 0)
       ∙ ap₂ (λ (x y : ℕ). x * 2 ^ (k + k) + y) (widened m (n / 2 ^ k / 2 ^ k) ∙ ap (tally (k + k) m) (shr-shr n k k)) (two-fields k n)
 
 -- the mask keeps the lower field and goes on above the upper one
-masked : (k y u v e : ℕ) → u < 2 ^ k → v < 2 ^ k → bitAnd (joined k y u v) (e * 2 ^ (k + k) + (2 ^ k - 1)) ≡ bitAnd y e * 2 ^ (k + k) + v
+masked : (k y u v e : ℕ) → u < 2 ^ k → v < 2 ^ k → bitAnd (joinedTallies k y u v) (e * 2 ^ (k + k) + (2 ^ k - 1)) ≡ bitAnd y e * 2 ^ (k + k) + v
 masked k y u v e hu hv =
     let p : 2 ^ (k + k) ≡ 2 ^ k * 2 ^ k = pow-add 2 k k in
     let both : u * 2 ^ k + v < 2 ^ (k + k) = subst (λ (x : ℕ). u * 2 ^ k + v < x) (sym p) (digits-lt hu hv) in
     let all : 2 ^ k - 1 < 2 ^ (k + k) = omega (arith, pow-pos k, pow-mono {i = k} {j = k + k} (omega arith)) in
-    let here : joined k y u v ≡ y * 2 ^ (k + k) + (u * 2 ^ k + v) =
+    let here : joinedTallies k y u v ≡ y * 2 ^ (k + k) + (u * 2 ^ k + v) =
     ap (λ (x : ℕ). x + v) (add-mul (y * 2 ^ k) u (2 ^ k)) ∙ omega (arith, mul-assoc y (2 ^ k) (2 ^ k), ap (λ (x : ℕ). y * x) p) in
     ap (λ (x : ℕ). bitAnd x (e * 2 ^ (k + k) + (2 ^ k - 1))) here
     ∙ and-block (k + k) y e (u * 2 ^ k + v) (2 ^ k - 1) both all
     ∙ ap (λ (x : ℕ). bitAnd y e * 2 ^ (k + k) + x) (and-mask (u * 2 ^ k + v) k ∙ digits-mod u hv)
 
 -- the number above the lower field, as two fields again
-shifted : (k y u v : ℕ) → v < 2 ^ k → joined k y u v / 2 ^ k ≡ joined k (y / 2 ^ k) (y % 2 ^ k) u
+shifted : (k y u v : ℕ) → v < 2 ^ k → joinedTallies k y u v / 2 ^ k ≡ joinedTallies k (y / 2 ^ k) (y % 2 ^ k) u
 shifted k y u v hv = digits-div (y * 2 ^ k + u) hv ∙ ap (λ (x : ℕ). x * 2 ^ k + u) (sym (split y k))
 
 -- two fields made of one
@@ -159,7 +159,7 @@ module _ (k : ℕ) where
 
   -- the mask on the number shifted
   masked-shifted : (m y u v : ℕ) → u ≤ k → v ≤ k
-      → bitAnd (joined k y u v / 2 ^ k) (lower k (suc m)) ≡ bitAnd (y / 2 ^ k) (lower k m) * 2 ^ (k + k) + u
+      → bitAnd (joinedTallies k y u v / 2 ^ k) (lower k (suc m)) ≡ bitAnd (y / 2 ^ k) (lower k m) * 2 ^ (k + k) + u
   unfolding lower
   masked-shifted m y u v hu hv =
       ap (λ (x : ℕ). bitAnd x (lower k m * 2 ^ (k + k) + (2 ^ k - 1))) (shifted k y u v (fits v hv))
@@ -172,7 +172,7 @@ module _ (k : ℕ) where
       none : byMasks k zero 0 ≡ 0
       none = omega (arith, and-zero-r (0 / 2 ^ k))
 
-      two : (m y u v : ℕ) → u ≤ k → v ≤ k → y % 2 ^ k ≤ k → byMasks k (suc m) (joined k y u v) ≡ byMasks k m y * 2 ^ (k + k) + (u + v)
+      two : (m y u v : ℕ) → u ≤ k → v ≤ k → y % 2 ^ k ≤ k → byMasks k (suc m) (joinedTallies k y u v) ≡ byMasks k m y * 2 ^ (k + k) + (u + v)
       two m y u v hu hv hy =
           omega (
             arith,
@@ -189,9 +189,9 @@ module _ (k : ℕ) where
       none = and-zero-r (0 + 0 / 2 ^ k)
 
       -- the sum's fields: no two of them leave theirs
-      sum : (y u v : ℕ) → v < 2 ^ k → joined k y u v + joined k y u v / 2 ^ k ≡ joined k (y + y / 2 ^ k) (y % 2 ^ k + u) (u + v)
+      sum : (y u v : ℕ) → v < 2 ^ k → joinedTallies k y u v + joinedTallies k y u v / 2 ^ k ≡ joinedTallies k (y + y / 2 ^ k) (y % 2 ^ k + u) (u + v)
       sum y u v hv =
-          ap (λ (x : ℕ). joined k y u v + x) (digits-div (y * 2 ^ k + u) hv)
+          ap (λ (x : ℕ). joinedTallies k y u v + x) (digits-div (y * 2 ^ k + u) hv)
           ∙ omega (
             arith,
             split y k,
@@ -204,7 +204,7 @@ module _ (k : ℕ) where
             ap (λ (x : ℕ). x * 2 ^ k) (split y k),
           )
 
-      two : (m y u v : ℕ) → u ≤ k → v ≤ k → y % 2 ^ k ≤ k → byOneMask k (suc m) (joined k y u v) ≡ byOneMask k m y * 2 ^ (k + k) + (u + v)
+      two : (m y u v : ℕ) → u ≤ k → v ≤ k → y % 2 ^ k ≤ k → byOneMask k (suc m) (joinedTallies k y u v) ≡ byOneMask k m y * 2 ^ (k + k) + (u + v)
       two m y u v hu hv hy =
           ap (λ (x : ℕ). bitAnd x (lower k m * 2 ^ (k + k) + (2 ^ k - 1))) (sum y u v (fits v hv))
           ∙ masked k (y + y / 2 ^ k) (y % 2 ^ k + u) (u + v) (lower k m) (omega arith) (omega arith)
@@ -216,6 +216,6 @@ minus-widens = widened 1 byMinus none two
     none : byMinus zero 0 ≡ 0
     none = omega arith
 
-    two : (m y u v : ℕ) → u ≤ 1 → v ≤ 1 → y % 2 ^ 1 ≤ 1 → byMinus (suc m) (joined 1 y u v) ≡ byMinus m y * 2 ^ (1 + 1) + (u + v)
+    two : (m y u v : ℕ) → u ≤ 1 → v ≤ 1 → y % 2 ^ 1 ≤ 1 → byMinus (suc m) (joinedTallies 1 y u v) ≡ byMinus m y * 2 ^ (1 + 1) + (u + v)
     two m y u v hu hv hy =
         omega (arith, masked-shifted 1 m y u v hu hv, and-le-l (y / 2 ^ 1) (lower 1 m))

@@ -18,22 +18,22 @@ pub record Tallied (n : ℕ) (l : Tallies) : Type 0 where
   pub e-is : l .e ≡ tally 32 2 n
 
 -- how many set bits of n stand at place p or above
-abbrev pub above : ℕ → ℕ → ℕ
-above n p = ones (n / 2 ^ p)
+abbrev pub bitsAbove : ℕ → ℕ → ℕ
+bitsAbove n p = ones (n / 2 ^ p)
 
 -- The t-th set bit of n from the top is in the field of k + k bits below `result`, the `target`-th there; `cur` are in its upper half.
-pub record Within (n t k : ℕ) (s : Search) : Type 0 where
+pub record InRange (n t k : ℕ) (s : Search) : Type 0 where
   pub field : ℕ
   pub aligned : s .result ≡ suc field * (k + k)
   pub inside : s .result ≤ 64
-  pub target-is : above n (s .result) + s .target ≡ t
+  pub target-is : bitsAbove n (s .result) + s .target ≡ t
   pub target-pos : 0 < s .target
-  pub cur-is : above n (s .result) + s .cur ≡ above n (s .result - k)
-  pub reach : t ≤ above n (s .result - (k + k))
+  pub cur-is : bitsAbove n (s .result) + s .cur ≡ bitsAbove n (s .result - k)
+  pub reach : t ≤ bitsAbove n (s .result - (k + k))
 
 -- what a step down to fields of k bits asks: `child` has their counts, and the mask keeps one of them
-pub record Step (n t : ℕ) (s : Search) (child k mask : ℕ) : Type 0 where
-  pub from : Within n t (k + k) s
+pub record HalfStep (n t : ℕ) (s : Search) (child k mask : ℕ) : Type 0 where
+  pub from : InRange n t (k + k) s
   pub some : 0 < k
   pub fields : ℕ
   pub whole : fields * k ≡ 64

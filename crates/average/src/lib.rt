@@ -2,7 +2,7 @@
 ghost use Prim.Native.Nat.{ℕ};
 ghost use Rattle.util.specs.Outcome.{Settled};
 ghost use Rattle.average.specs.Average.{paper, averageOf};
-ghost use Rattle.average.specs.Search.{Tallied, Step, Within};
+ghost use Rattle.average.specs.Search.{Tallied, HalfStep, InRange};
 
 // The bit that splits a word's set bits, or none.
 pub enum Half {
@@ -55,8 +55,8 @@ struct Search {
 // One step down: to the upper or the lower half of the field, by whether the upper one has enough set bits. `child` has the counts of
 // the fields of `stride` bits, and `mask` keeps one.
 fn descend(s: Search, child: u64, stride: u64, mask: u64) -> Search
-    requires { ⌜ ((n : ℕ) × (t : ℕ) × Step n t s child stride mask) ⌝ }
-    ensures { λ r. ⌜ ((n t : ℕ) → Step n t s child stride mask → Within n t stride r) ⌝ }
+    requires { ⌜ ((n : ℕ) × (t : ℕ) × HalfStep n t s child stride mask) ⌝ }
+    ensures { λ r. ⌜ ((n t : ℕ) → HalfStep n t s child stride mask → InRange n t stride r) ⌝ }
 {
     if s.cur < s.target {
         let result = s.result - 2 * stride;

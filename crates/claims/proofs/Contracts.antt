@@ -48,9 +48,11 @@ use Rattle.ops.proofs.bitand_assign.Reads.{Asked as bitandAssign-asks, Learnt a
 use Rattle.ops.proofs.bitor_assign.Reads.{Asked as bitorAssign-asks, Learnt as bitorAssign-tells}
 use Rattle.ops.proofs.bitxor_assign.Reads.{Asked as bitxorAssign-asks, Learnt as bitxorAssign-tells}
 use Rattle.map_write.proofs.write.Reads.{Asked as write-asks, Learnt as write-tells}
+use Rattle.map_write.proofs.length.Reads.{Asked as mapLength-asks, Learnt as mapLength-tells}
+use Rattle.map_read.proofs.capacity.Reads.{Asked as mapCapacity-asks, Learnt as mapCapacity-tells}
 use Rattle.map_read.proofs.read.Reads.{Asked as read-asks, Learnt as read-tells}
 use Rattle.claims.specs.Calls.{Meets, promiseOf, Moves}
-use Rattle.claims.specs.Calls.Call.{«open», add, remove, contains, addList, isEmpty, clear, containsSet, equal, getFromLayer, averageOnes, firstFree, isSound, rebuild, bitorAssign, bitandAssign, bitxorAssign, start, next, fill, containsF, isEmptyF, getFromLayerF, startF, nextF, fillF, write, read, iterR}
+use Rattle.claims.specs.Calls.Call.{«open», add, remove, contains, addList, isEmpty, clear, containsSet, equal, getFromLayer, averageOnes, firstFree, isSound, rebuild, bitorAssign, bitandAssign, bitxorAssign, start, next, fill, containsF, isEmptyF, getFromLayerF, startF, nextF, fillF, write, read, mapLength, mapCapacity, iterR}
 
 -- ---- calls on one store
 
@@ -119,8 +121,8 @@ bitxorAssign-is = (refl, refl)
 
 -- ---- walks: the cursor comes first
 
-pub start-is : (start-asks ≡ λ κs a. Unit {0}) × (start-tells ≡ λ κs a z e. Meets (promiseOf (start (now (a .1 .0)) (a .0))) z tt)
-start-is = (refl, refl)
+pub start-promised : (start-asks ≡ λ κs a. Unit {0}) × (start-tells ≡ λ κs a z e. Meets (promiseOf (start (now (a .1 .0)) (a .0))) z tt)
+start-promised = (refl, refl)
 
 pub next-is : (next-asks ≡ λ κs a. Unit {0}) × (next-tells ≡ λ κs a z e. Meets (promiseOf (next (now (a .1 .0)) (a .0) (a .1 .1 .0))) z tt)
 next-is = (refl, refl)
@@ -155,6 +157,12 @@ write-is = (refl, refl)
 
 pub read-is : (read-asks ≡ λ κs a. Unit {0}) × (read-tells ≡ λ κs a z e. Meets (promiseOf (read (now (a .0)) (now (a .1 .0)))) z (now (e .1 .0)))
 read-is = (refl, refl)
+
+pub mapLength-is : (mapLength-asks ≡ λ κs a. Unit {0}) × (mapLength-tells ≡ λ κs a z e. Meets (promiseOf (mapLength (now (a .0)))) z tt)
+mapLength-is = (refl, refl)
+
+pub mapCapacity-is : (mapCapacity-asks ≡ λ κs a. Unit {0}) × (mapCapacity-tells ≡ λ κs a z e. Meets (promiseOf (mapCapacity (now (a .0)))) z tt)
+mapCapacity-is = (refl, refl)
 
 -- ---- the reader: where a struct with a reference is taken or handed back, the contract is the function's `spec`, and what it requires is
 -- nothing. The equations of a step are its promise by Settles' `moves-meets` and `first-meets`.

@@ -1,10 +1,12 @@
 -- DEMAND 1: "A refusal has a fixed number and alters nothing lent." Of every public call, for all inputs.
-use mathlib.Core.Bool.{Bool, true, false, cond, _&&_}
+use mathlib.Core.Bool.{Bool, true, false, cond, _&&_, _||_, true≢false}
 use mathlib.Core.List.{List, [], _∷_}
 use mathlib.Core.Logic.{_≢_}
 use mathlib.Core.Path.{_≡_, refl, sym, ap, _∙_, subst}
-use Prim.Native.Nat.{ℕ, zero, suc, _-_, _≤_, min}
+use Prim.Native.Nat.{ℕ, zero, suc, _-_, _<_, min}
+use native.Mathlib.Decide.{decLt}
 use native.Mathlib.Omega.{arith}
+use borrow.Author.Tests.{ne-eqb}
 use lib.Dec.{leb, ltb, eqb}
 use lib.ListN.{length, getD}
 use denote.Ref.{now}
@@ -38,18 +40,20 @@ use Rattle.walk_reader.specs.Readers.{told}
 use Rattle.formula_codes.specs.Check.{besideOf, sooner, storesOf, checkOf}
 use Rattle.formula_codes.specs.Codes.{isFormula}
 use Rattle.formula_codes.specs.Tree.{nth}
-use Rattle.formula_ask.specs.Calls.{capOf, layerWordOf, containsOf as formulaContainsOf, isEmptyOf as formulaIsEmptyOf}
-use Rattle.formula_walk.specs.Calls.{refusalIn, startIn as formulaStartIn, nextIn as formulaNextIn}
-use Rattle.formula_fill.specs.Calls.{fillIn as formulaFillIn}
+use Rattle.formula_ask.specs.Calls.{capOf, layerWordOf, formulaContainsOf, formulaIsEmptyOf}
+use Rattle.formula_walk.specs.Calls.{refusalIn, formulaStartIn, formulaNextIn}
+use Rattle.formula_fill.specs.Calls.{formulaFillIn}
 use Rattle.ops_merge.specs.Calls.{mergeable, assignOf, Assigned}
 use Rattle.map_write.specs.Answer.{wrotePaper}
-use Rattle.map_write.specs.Calls.{writeOf}
-use Rattle.map_write.specs.Map.{wordsIn, mapLen}
+use Rattle.map_write.specs.Calls.{mapLengthOf, writeOf}
+use Rattle.map_write.specs.Map.{toldWords, mapLen}
 use Rattle.map_write.specs.declared.Wrote.the-variants.{Refused as WroteRefused}
-use Rattle.map_read.specs.Calls.{readOf}
-use Rattle.map_read.specs.Judge.{capIn, countIn, usedIn, table, headOk, good, total, judgeOf}
-use Rattle.claims.specs.Calls.{Answer, Memory, Meets, refusal, lastRefusal, Refuses, Refused, Call, promiseOf, partPaper, partOf, noBatch, toldPaper, toldRefused, toldOf, moved}
-use Rattle.claims.specs.Calls.Call.{«open», add, remove, contains, addList, isEmpty, clear, containsSet, equal, getFromLayer, layerAsSlice, averageOnes, firstFree, isSound, rebuild, bitorAssign, bitandAssign, bitxorAssign, start, next, fill, containsF, isEmptyF, getFromLayerF, startF, nextF, fillF, write, read, iterR, nextR, firstR}
+use Rattle.map_read.specs.Answer.{mapForPaper}
+use Rattle.map_read.specs.Calls.{mapCapacityOf, readOf}
+use Rattle.map_read.specs.declared.MapFor.the-variants.{Refused as MapForRefused}
+use Rattle.map_read.specs.Judge.{capIn, countIn, usedIn, tableIn, headOk, good, total, judgeOf}
+use Rattle.claims.specs.Calls.{Answered, Memory, Meets, refusal, refusalNumbers, isAmong, Refuses, Refused, Call, promiseOf, partPaper, layerPartOf, noBatch, toldPaper, toldRefused, toldOf, movedTo}
+use Rattle.claims.specs.Calls.Call.{«open», add, remove, contains, addList, isEmpty, clear, containsSet, equal, getFromLayer, layerAsSlice, averageOnes, firstFree, isSound, rebuild, bitorAssign, bitandAssign, bitxorAssign, start, next, fill, containsF, isEmptyF, getFromLayerF, startF, nextF, fillF, write, read, mapLength, mapCapacity, iterR, nextR, firstR}
 
 -- what holds of both cases holds of the one chosen
 by-cond : {A : Type 0} (P : A → Type 0) (b : Bool) {x y : A} → P x → P y → P (cond b x y)
@@ -58,17 +62,28 @@ by-cond P false p q = q
 
 -- ---- one outcome
 
+-- 0, or a number of the table
+abbrev isKnown : ℕ → Bool
+isKnown = isAmong (0 ∷ refusalNumbers)
+
+not-zero : (n : ℕ) → n ≢ 0 → isKnown n ≡ true → isAmong refusalNumbers n ≡ true
+not-zero n h e = go (eqb n 0) (ne-eqb n 0 h) e
+  where
+    go : (x : Bool) → x ≡ false → (x || isAmong refusalNumbers n) ≡ true → isAmong refusalNumbers n ≡ true
+    go true f e = absurd (true≢false f)
+    go false f e = e
+
 -- where its first number is not 0, the outcome is a refusal
 record Stays {R X : Type 0} (p : Paper R) (f : ℕ → R) (x : X) (o : Outcome X) : Type 0 where
-  known : getD (o .numbers) 0 0 ≤ lastRefusal
+  known : isKnown (getD (o .numbers) 0 0) ≡ true
   numbers : getD (o .numbers) 0 0 ≢ 0 → o .numbers ≡ p .numbers (f (getD (o .numbers) 0 0))
   lent : getD (o .numbers) 0 0 ≢ 0 → o .lent ≡ x
 
 module _ {R X : Type 0} {p : Paper R} {f : ℕ → R} {x : X} where
   goes : {o : Outcome X} → getD (o .numbers) 0 0 ≡ 0 → Stays p f x o
-  goes e = record { known = omega arith; numbers = λ n. absurd (n e); lent = λ n. absurd (n e) }
+  goes e = record { known = rw e; numbers = λ n. absurd (n e); lent = λ n. absurd (n e) }
 
-  stays : (n : ℕ) → n ≤ lastRefusal → p .numbers (f n) ≡ n ∷ [] → Stays p f x (refuses n x)
+  stays : (n : ℕ) → isKnown n ≡ true → p .numbers (f n) ≡ n ∷ [] → Stays p f x (refuses n x)
   stays n h e = record { known = h; numbers = λ z. sym e; lent = λ z. refl }
 
   choose : (b : Bool) {o o′ : Outcome X} → Stays p f x o → Stays p f x o′ → Stays p f x (cond b o o′)
@@ -81,7 +96,7 @@ module _ {R X : Type 0} {p : Paper R} {f : ℕ → R} {x : X} where
       let e : getD (p .numbers r) 0 0 ≡ getD (o .numbers) 0 0 = ap (λ (l : List ℕ). getD l 0 0) (s .answer) in
       let m : getD (o .numbers) 0 0 ≢ 0 = λ z. n (e ∙ z) in
       record {
-        known = subst (λ (i : ℕ). i ≤ lastRefusal) (sym e) (k .known);
+        known = subst (λ (i : ℕ). isAmong refusalNumbers i ≡ true) (sym e) (not-zero (getD (o .numbers) 0 0) m (k .known));
         answer =
             sym (p .same r) ∙ ap (p .answer) (s .answer ∙ k .numbers m) ∙ p .same (f (getD (o .numbers) 0 0))
             ∙ ap f (sym e);
@@ -92,72 +107,72 @@ module _ {R X : Type 0} {p : Paper R} {f : ℕ → R} {x : X} where
 
 open-stays : (s : List ℕ) (n : ℕ) → Stays didPaper DidRefused s (openOf s n)
 unfolding openOf
-open-stays s n = choose (isCap n) (choose (eqb (length s) (storeLen n)) (goes refl) (stays 2 (omega arith) refl)) (stays 1 (omega arith) refl)
+open-stays s n = choose (isCap n) (choose (eqb (length s) (storeLen n)) (goes refl) (stays 2 refl refl)) (stays 1 refl refl)
 
 add-stays : (s : List ℕ) (i : ℕ) → Stays askedPaper AskedRefused s (addOf s i)
 unfolding moveOf
-add-stays s i = choose (isStore s) (choose (ltb i (cap s)) (goes refl) (stays 3 (omega arith) refl)) (stays 2 (omega arith) refl)
+add-stays s i = choose (isStore s) (choose (ltb i (cap s)) (goes refl) (stays 3 refl refl)) (stays 2 refl refl)
 
 remove-stays : (s : List ℕ) (i : ℕ) → Stays askedPaper AskedRefused s (removeOf s i)
 unfolding moveOf
-remove-stays s i = choose (isStore s) (choose (ltb i (cap s)) (goes refl) (goes refl)) (stays 2 (omega arith) refl)
+remove-stays s i = choose (isStore s) (choose (ltb i (cap s)) (goes refl) (goes refl)) (stays 2 refl refl)
 
 contains-stays : (s : List ℕ) (i : ℕ) → Stays askedPaper AskedRefused tt (containsOf s i)
 unfolding containsOf
-contains-stays s i = choose (isStore s) (goes refl) (stays 2 (omega arith) refl)
+contains-stays s i = choose (isStore s) (goes refl) (stays 2 refl refl)
 
 list-stays : (s ids : List ℕ) → Stays didPaper DidRefused s (addListOf s ids)
 unfolding addListOf
-list-stays s ids = choose (isStore s) (choose (allBelow (cap s) ids) (goes refl) (stays 3 (omega arith) refl)) (stays 2 (omega arith) refl)
+list-stays s ids = choose (isStore s) (choose (allBelow (cap s) ids) (goes refl) (stays 3 refl refl)) (stays 2 refl refl)
 
 empty-stays : (s : List ℕ) → Stays askedPaper AskedRefused tt (isEmptyOf s)
 unfolding isEmptyOf
-empty-stays s = choose (isStore s) (goes refl) (stays 2 (omega arith) refl)
+empty-stays s = choose (isStore s) (goes refl) (stays 2 refl refl)
 
 clear-stays : (s : List ℕ) → Stays didPaper DidRefused s (clearOf s)
 unfolding clearOf
-clear-stays s = choose (isStore s) (goes refl) (stays 2 (omega arith) refl)
+clear-stays s = choose (isStore s) (goes refl) (stays 2 refl refl)
 
 set-stays : (s t : List ℕ) → Stays askedPaper AskedRefused tt (containsSetOf s t)
 unfolding containsSetOf
-set-stays s t = choose (isStore s && isStore t) (choose (eqb (cap s) (cap t)) (goes refl) (stays 5 (omega arith) refl)) (stays 2 (omega arith) refl)
+set-stays s t = choose (isStore s && isStore t) (choose (eqb (cap s) (cap t)) (goes refl) (stays 5 refl refl)) (stays 2 refl refl)
 
 equal-stays : (s t : List ℕ) → Stays askedPaper AskedRefused tt (equalOf s t)
 unfolding equalOf
-equal-stays s t = choose (isStore s && isStore t) (choose (eqb (cap s) (cap t)) (goes refl) (stays 5 (omega arith) refl)) (stays 2 (omega arith) refl)
+equal-stays s t = choose (isStore s && isStore t) (choose (eqb (cap s) (cap t)) (goes refl) (stays 5 refl refl)) (stays 2 refl refl)
 
 word-stays : (s : List ℕ) (k i : ℕ) → Stays readPaper ReadRefused tt (wordOf s k i)
 unfolding wordOf
-word-stays s k i = choose (isStore s) (choose (leb k (top (cap s))) (goes refl) (stays 4 (omega arith) refl)) (stays 2 (omega arith) refl)
+word-stays s k i = choose (isStore s) (choose (leb k (top (cap s))) (goes refl) (stays 4 refl refl)) (stays 2 refl refl)
 
-part-stays : (s : List ℕ) (k : ℕ) → Stays partPaper (λ n. []) tt (partOf s k)
+part-stays : (s : List ℕ) (k : ℕ) → Stays partPaper (λ n. []) tt (layerPartOf s k)
 part-stays s k = go (layerPart s k)
   where
     go : (l : List ℕ) → Stays {X = Unit {0}} partPaper (λ n. []) tt (record { numbers = partPaper .numbers l; lent = tt })
-    go [] = record { known = omega arith; numbers = λ n. refl; lent = λ n. refl }
+    go [] = record { known = refl; numbers = λ n. refl; lent = λ n. refl }
     go (w ∷ l) = goes refl
 
 free-stays : (s : List ℕ) → Stays foundPaper FoundRefused tt (firstFreeOf s)
 unfolding firstFreeOf
-free-stays s = choose (isStore s) (go (freeFrom (cap s) s 0)) (stays 2 (omega arith) refl)
+free-stays s = choose (isStore s) (go (freeFrom (cap s) s 0)) (stays 2 refl refl)
   where
     go : (l : List ℕ) → Stays foundPaper FoundRefused tt (firstOf l)
-    go [] = stays 12 (omega arith) refl
+    go [] = stays 12 refl refl
     go (i ∷ l) = goes refl
 
 sound-stays : (s : List ℕ) → Stays askedPaper AskedRefused tt (isSoundOf s)
 unfolding isSoundOf
-sound-stays s = choose (isStore s) (goes refl) (stays 2 (omega arith) refl)
+sound-stays s = choose (isStore s) (goes refl) (stays 2 refl refl)
 
 rebuild-stays : (s : List ℕ) → Stays didPaper DidRefused s (rebuildOf s)
 unfolding rebuildOf
-rebuild-stays s = choose (isStore s) (goes refl) (stays 2 (omega arith) refl)
+rebuild-stays s = choose (isStore s) (goes refl) (stays 2 refl refl)
 
 -- ---- in place: a refusal is none of two stores of equal capacity, and then all is settled
 
 assign-stays : (op : ℕ) (s t : List ℕ) → Stays didPaper DidRefused s (assignOf op s t)
 unfolding assignOf
-assign-stays op s t = choose (isStore s && isStore t) (choose (eqb (cap s) (cap t)) (goes refl) (stays 5 (omega arith) refl)) (stays 2 (omega arith) refl)
+assign-stays op s t = choose (isStore s && isStore t) (choose (eqb (cap s) (cap t)) (goes refl) (stays 5 refl refl)) (stays 2 refl refl)
 
 pair-goes : (op : ℕ) (s t : List ℕ) → mergeable s t ≡ true → getD (assignOf op s t .numbers) 0 0 ≡ 0
 unfolding mergeable assignOf
@@ -207,33 +222,33 @@ module _ (c : Cursor) where
   abbrev StepStays : Step → Type 0
   StepStays a = Stays stepPaper (λ n. refused n c) tt (written a)
 
-  no-step : (n : ℕ) → n ≤ lastRefusal → StepStays (refused n c)
+  no-step : (n : ℕ) → isKnown n ≡ true → StepStays (refused n c)
   no-step n h = record { known = h; numbers = λ z. refl; lent = λ z. refl }
 
   module _ (out : List ℕ) where
     abbrev FillStays : Filled → Type 0
     FillStays f = Stays batchPaper (noBatch c) out (filled f out)
 
-    no-fill : (n : ℕ) → n ≤ lastRefusal → FillStays (stopped (StopRefused n) 0 c)
+    no-fill : (n : ℕ) → isKnown n ≡ true → FillStays (stopped (StopRefused n) 0 c)
     no-fill n h = record { known = h; numbers = λ z. refl; lent = λ z. refl }
 
 start-stays : (s : List ℕ) (c : Cursor) → StepStays c (startIn s c)
 unfolding startIn
-start-stays s c = by-cond (StepStays c) (isStore s) (goes refl) (no-step c 2 (omega arith))
+start-stays s c = by-cond (StepStays c) (isStore s) (goes refl) (no-step c 2 refl)
 
 next-stays : (s : List ℕ) (c : Cursor) (b : ℕ) → StepStays c (nextIn s c b)
 unfolding nextIn
 next-stays s c b =
     by-cond (StepStays c) (isStore s)
-    (by-cond (StepStays c) (fits (top (cap s)) c) (goes (next-goes _ _ b c)) (no-step c 7 (omega arith)))
-    (no-step c 2 (omega arith))
+    (by-cond (StepStays c) (fits (top (cap s)) c) (goes (next-goes _ _ b c)) (no-step c 7 refl))
+    (no-step c 2 refl)
 
 fill-stays : (s : List ℕ) (c : Cursor) (b : ℕ) (out : List ℕ) → FillStays c out (fillIn s c b (length out))
 unfolding fillIn
 fill-stays s c b out =
     by-cond (FillStays c out) (isStore s)
-    (by-cond (FillStays c out) (fits (top (cap s)) c) (goes (fill-goes _ _ (length out) b c)) (no-fill c out 7 (omega arith)))
-    (no-fill c out 2 (omega arith))
+    (by-cond (FillStays c out) (fits (top (cap s)) c) (goes (fill-goes _ _ (length out) b c)) (no-fill c out 7 refl))
+    (no-fill c out 2 refl)
 
 -- a reader's step refuses where the step does, and what is lent then has the cursor that was given
 told-stays : {X : Type 0} (s : List ℕ) (c : Cursor) (b : ℕ) (at : Cursor → X) → Stays toldPaper toldRefused (at c) (toldOf (nextIn s c b) at)
@@ -250,72 +265,90 @@ told-stays s c b at =
 
 -- ---- formulas: the refusal of the stores, of the codes, of a cursor
 
-sooner-le : (a b k : ℕ) → a ≤ k → b ≤ k → sooner a b ≤ k
+abbrev Known : ℕ → Type 0
+Known n = isKnown n ≡ true
+
+sooner-known : (a b : ℕ) → Known a → Known b → Known (sooner a b)
 unfolding sooner
-sooner-le a b k h g = by-cond (λ n. n ≤ k) (eqb a 0) g (by-cond (λ n. n ≤ k) (eqb b 0) h (let e : min a b ≤ k = omega arith in e))
+sooner-known a b h g = by-cond Known (eqb a 0) g (by-cond Known (eqb b 0) h (go (decLt a b)))
+  where
+    go : Dec (a < b) → Known (min a b)
+    go (yes l) = let e : min a b ≡ a = omega arith in subst Known (sym e) h
+    go (no l) = let e : min a b ≡ b = omega arith in subst Known (sym e) g
 
-beside-le : (N : ℕ) (s : List ℕ) → besideOf N s ≤ 5
+beside-known : (N : ℕ) (s : List ℕ) → Known (besideOf N s)
 unfolding besideOf
-beside-le N s =
-    by-cond (λ n. n ≤ 5) (eqb (length s) 0) (omega arith) (by-cond (λ n. n ≤ 5) (isStore s) (by-cond (λ n. n ≤ 5) (eqb (cap s) N) (omega arith) (omega arith)) (omega arith))
+beside-known N s = by-cond Known (eqb (length s) 0) refl (by-cond Known (isStore s) (by-cond Known (eqb (cap s) N) refl refl) refl)
 
-stores-le : (ss : List (List ℕ)) → storesOf ss ≤ 5
+stores-known : (ss : List (List ℕ)) → Known (storesOf ss)
 unfolding storesOf
-stores-le ss =
-    by-cond (λ n. n ≤ 5) (isStore (nth ss 0)) (sooner-le _ _ 5 (sooner-le _ _ 5 (beside-le _ _) (beside-le _ _)) (beside-le _ _)) (omega arith)
+stores-known ss =
+    by-cond Known (isStore (nth ss 0)) (sooner-known _ _ (sooner-known _ _ (beside-known _ _) (beside-known _ _)) (beside-known _ _)) refl
 
-check-le : (ss : List (List ℕ)) (cs : List ℕ) → checkOf ss cs ≤ 6
+check-known : (ss : List (List ℕ)) (cs : List ℕ) → Known (checkOf ss cs)
 unfolding checkOf
-check-le ss cs = by-cond (λ n. n ≤ 6) (eqb (storesOf ss) 0) (by-cond (λ n. n ≤ 6) (isFormula ss cs) (omega arith) (omega arith)) (omega (arith, stores-le ss))
+check-known ss cs = by-cond Known (eqb (storesOf ss) 0) (by-cond Known (isFormula ss cs) refl refl) (stores-known ss)
 
-refusal-le : (ss : List (List ℕ)) (cs : List ℕ) (c : Cursor) → refusalIn ss cs c ≤ 7
+refusal-known : (ss : List (List ℕ)) (cs : List ℕ) (c : Cursor) → Known (refusalIn ss cs c)
 unfolding refusalIn
-refusal-le ss cs c = by-cond (λ n. n ≤ 7) (eqb (checkOf ss cs) 0) (by-cond (λ n. n ≤ 7) (fits (top (capOf ss)) c) (omega arith) (omega arith)) (omega (arith, check-le ss cs))
+refusal-known ss cs c = by-cond Known (eqb (checkOf ss cs) 0) (by-cond Known (fits (top (capOf ss)) c) refl refl) (check-known ss cs)
 
 module _ (ss : List (List ℕ)) (cs : List ℕ) where
   containsF-stays : (i : ℕ) → Stays askedPaper AskedRefused tt (formulaContainsOf ss cs i)
   unfolding formulaContainsOf
-  containsF-stays i = choose (eqb (checkOf ss cs) 0) (goes refl) (stays _ (omega (arith, check-le ss cs)) refl)
+  containsF-stays i = choose (eqb (checkOf ss cs) 0) (goes refl) (stays _ (check-known ss cs) refl)
 
   emptyF-stays : Stays askedPaper AskedRefused tt (formulaIsEmptyOf ss cs)
   unfolding formulaIsEmptyOf
-  emptyF-stays = choose (eqb (checkOf ss cs) 0) (goes refl) (stays _ (omega (arith, check-le ss cs)) refl)
+  emptyF-stays = choose (eqb (checkOf ss cs) 0) (goes refl) (stays _ (check-known ss cs) refl)
 
   wordF-stays : (k i : ℕ) → Stays readPaper ReadRefused tt (layerWordOf ss cs k i)
   unfolding layerWordOf
   wordF-stays k i =
-      choose (eqb (storesOf ss) 0) (choose (leb k (top (capOf ss))) (choose (isFormula ss cs) (goes refl) (stays 6 (omega arith) refl)) (stays 4 (omega arith) refl)) (stays _ (omega (arith, stores-le ss)) refl)
+      choose (eqb (storesOf ss) 0) (choose (leb k (top (capOf ss))) (choose (isFormula ss cs) (goes refl) (stays 6 refl refl)) (stays 4 refl refl)) (stays _ (stores-known ss) refl)
 
   startF-stays : (c : Cursor) → StepStays c (formulaStartIn ss cs c)
   unfolding formulaStartIn
-  startF-stays c = by-cond (StepStays c) (eqb (checkOf ss cs) 0) (goes refl) (no-step c _ (omega (arith, check-le ss cs)))
+  startF-stays c = by-cond (StepStays c) (eqb (checkOf ss cs) 0) (goes refl) (no-step c _ (check-known ss cs))
 
   nextF-stays : (c : Cursor) (b : ℕ) → StepStays c (formulaNextIn ss cs c b)
   unfolding formulaNextIn
-  nextF-stays c b = by-cond (StepStays c) (eqb (refusalIn ss cs c) 0) (goes (next-goes _ _ b c)) (no-step c _ (omega (arith, refusal-le ss cs c)))
+  nextF-stays c b = by-cond (StepStays c) (eqb (refusalIn ss cs c) 0) (goes (next-goes _ _ b c)) (no-step c _ (refusal-known ss cs c))
 
   fillF-stays : (c : Cursor) (b : ℕ) (out : List ℕ) → FillStays c out (formulaFillIn ss cs c b (length out))
   unfolding formulaFillIn
-  fillF-stays c b out = by-cond (FillStays c out) (eqb (refusalIn ss cs c) 0) (goes (fill-goes _ _ (length out) b c)) (no-fill c out _ (omega (arith, refusal-le ss cs c)))
+  fillF-stays c b out = by-cond (FillStays c out) (eqb (refusalIn ss cs c) 0) (goes (fill-goes _ _ (length out) b c)) (no-fill c out _ (refusal-known ss cs c))
 
 -- ---- maps
 
 write-stays : (s m : List ℕ) → Stays wrotePaper WroteRefused m (writeOf s m)
 unfolding writeOf
-write-stays s m = choose (isStore s) (choose (leb (mapLen (wordsIn (cap s) s)) (length m)) (goes refl) (stays 8 (omega arith) refl)) (stays 2 (omega arith) refl)
+write-stays s m = choose (isStore s) (choose (leb (mapLen (toldWords (cap s) s)) (length m)) (goes refl) (stays 8 refl refl)) (stays 2 refl refl)
 
-judge-le : (m : List ℕ) (N : ℕ) → judgeOf m N ≤ 11
+judge-known : (m : List ℕ) (N : ℕ) → Known (judgeOf m N)
 unfolding judgeOf
-judge-le m N =
-    by-cond (λ n. n ≤ 11) (headOk m) (by-cond (λ n. n ≤ 11) (eqb (capIn m) N) (by-cond (λ n. n ≤ 11) (good N 0 (usedIn m) (table m)) (by-cond (λ n. n ≤ 11) (eqb (total (usedIn m) (table m)) (countIn m)) (omega arith) (omega arith)) (omega arith)) (omega arith)) (omega arith)
+judge-known m N =
+    by-cond Known (headOk m)
+    (by-cond Known (eqb (capIn m) N)
+    (by-cond Known (good N 0 (usedIn m) (tableIn m)) (by-cond Known (eqb (total (usedIn m) (tableIn m)) (countIn m)) refl refl) refl)
+    refl)
+    refl
+
+length-stays : (s : List ℕ) → Stays wrotePaper WroteRefused tt (mapLengthOf s)
+unfolding mapLengthOf
+length-stays s = choose (isStore s) (goes refl) (stays 2 refl refl)
+
+capacity-stays : (m : List ℕ) → Stays mapForPaper MapForRefused tt (mapCapacityOf m)
+unfolding mapCapacityOf
+capacity-stays m = choose (headOk m) (goes refl) (stays 9 refl refl)
 
 read-stays : (m s : List ℕ) → Stays didPaper DidRefused s (readOf m s)
 unfolding readOf
-read-stays m s = choose (isStore s) (choose (eqb (judgeOf m (cap s)) 0) (goes refl) (stays _ (omega (arith, judge-le m (cap s))) refl)) (stays 2 (omega arith) refl)
+read-stays m s = choose (isStore s) (choose (eqb (judgeOf m (cap s)) 0) (goes refl) (stays _ (judge-known m (cap s)) refl)) (stays 2 refl refl)
 
 -- ---- THE LIST: "Each returns its number and zeros elsewhere and changes nothing lent; a refused next hands back its cursor as given."
 
-pub refusals : (c : Call) (r : Answer (promiseOf c)) (y : Memory (promiseOf c)) → Meets (promiseOf c) r y → refusal (promiseOf c) r ≢ 0
+pub refusals : (c : Call) (r : Answered (promiseOf c)) (y : Memory (promiseOf c)) → Meets (promiseOf c) r y → refusal (promiseOf c) r ≢ 0
     → Refused (promiseOf c) r y
 refusals («open» s n) r y = refuses-so (open-stays s n)
 refusals (add s i) r y = refuses-so (add-stays s i)
@@ -346,6 +379,8 @@ refusals (nextF ss cs c b) r y = refuses-so (nextF-stays ss cs c b)
 refusals (fillF ss cs c b out) r y = refuses-so (fillF-stays ss cs c b out)
 refusals (write s m) r y = refuses-so (write-stays s m)
 refusals (read m s) r y = refuses-so (read-stays m s)
+refusals (mapLength s) r y = refuses-so (length-stays s)
+refusals (mapCapacity m) r y = refuses-so (capacity-stays m)
 refusals (iterR v) r y = λ m n. n refl
-refusals (nextR it b) r y = refuses-so (told-stays (now (it .store)) (it .cursor) b (moved it))
+refusals (nextR it b) r y = refuses-so (told-stays (now (it .store)) (it .cursor) b (movedTo it))
 refusals (firstR s b) r y = refuses-so (told-stays s (startedOf s) b (λ c. tt))

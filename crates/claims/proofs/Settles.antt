@@ -21,7 +21,7 @@ use Rattle.walk_reader.specs.declared.BitIter.{BitIter}
 use Rattle.walk_reader.specs.declared.Told.{Told}
 use Rattle.ops_merge.specs.Calls.{mergeable, assignOf}
 use Rattle.ops_merge.proofs.Theorems.{assigned-answers, assigned-settles}
-use Rattle.claims.specs.Calls.{Promise, Answer, Memory, Meets, Whole, Alike, Call, promiseOf, toldPaper, Moves}
+use Rattle.claims.specs.Calls.{Promise, Answered, Memory, Meets, Whole, Alike, Call, promiseOf, toldPaper, Moves}
 use Rattle.claims.specs.Calls.Call.{layerAsSlice, nextR, firstR}
 use Rattle.claims.specs.Calls.Promise.{fixes, tells, merges, makes}
 use Rattle.claims.specs.Reached.{Reached}
@@ -36,25 +36,25 @@ made : {s : RefT (List ℕ)} {c : Cursor} {r r′ : BitIter} {y y′ : Unit {0}}
 made a b = (same-reader (a .0 ∙ sym (b .0)) (a .1 ∙ sym (b .1)), refl)
 
 -- one law for every promise
-settle : (p : Promise) → Whole p → (r r′ : Answer p) (y y′ : Memory p) → Meets p r y → Meets p r′ y′ → (r ≡ r′) × (y ≡ y′)
+settle : (p : Promise) → Whole p → (r r′ : Answered p) (y y′ : Memory p) → Meets p r y → Meets p r′ y′ → (r ≡ r′) × (y ≡ y′)
 settle (fixes p f x o) w r r′ y y′ a b = settles a b
 settle (tells p o) w r r′ y y′ a b = settles a b
 settle (merges op s t) w r r′ y y′ a b = assigned-settles a b w
 settle (makes s c) w r r′ y y′ a b = made a b
 
-share : (p : Promise) (r r′ : Answer p) (y y′ : Memory p) → Meets p r y → Meets p r′ y′ → Alike p r y r′ y′
+share : (p : Promise) (r r′ : Answered p) (y y′ : Memory p) → Meets p r y → Meets p r′ y′ → Alike p r y r′ y′
 share (fixes p f x o) r r′ y y′ a b = settles a b
 share (tells p o) r r′ y y′ a b = settles a b
 share (merges op s t) r r′ y y′ a b = assigned-answers a b
 share (makes s c) r r′ y y′ a b = made a b
 
 -- ANY TWO OUTCOMES that meet a call's promise are equal: for every input, but in place where both stores are sound
-pub settled-whole : (c : Call) → Whole (promiseOf c) → (r r′ : Answer (promiseOf c)) (y y′ : Memory (promiseOf c)) → Meets (promiseOf c) r y
+pub settled-whole : (c : Call) → Whole (promiseOf c) → (r r′ : Answered (promiseOf c)) (y y′ : Memory (promiseOf c)) → Meets (promiseOf c) r y
     → Meets (promiseOf c) r′ y′ → (r ≡ r′) × (y ≡ y′)
 settled-whole c = settle (promiseOf c)
 
 -- THE EXCEPTION: for every input the answer is fixed, and of the memory, where not all is, the length and word 0
-pub settled-alike : (c : Call) (r r′ : Answer (promiseOf c)) (y y′ : Memory (promiseOf c)) → Meets (promiseOf c) r y → Meets (promiseOf c) r′ y′
+pub settled-alike : (c : Call) (r r′ : Answered (promiseOf c)) (y y′ : Memory (promiseOf c)) → Meets (promiseOf c) r y → Meets (promiseOf c) r′ y′
     → Alike (promiseOf c) r y r′ y′
 settled-alike c = share (promiseOf c)
 

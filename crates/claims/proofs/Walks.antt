@@ -13,10 +13,10 @@ use Rattle.walk_laws.specs.Calls.{Ask, Some, AllStopped}
 use Rattle.walk_laws.specs.Under.{allIds, allReads}
 use Rattle.walk_laws.specs.Walks.{Spaced}
 use Rattle.formula_codes.specs.Tree.{four, nth}
-use Rattle.formula_ask.specs.Calls.{wordsOf}
-use Rattle.formula_walk.specs.Calls.{startIn}
+use Rattle.formula_ask.specs.Calls.{formulaWords}
+use Rattle.formula_walk.specs.Calls.{formulaStartIn}
 use Rattle.formula_laws.specs.Sides.{Sounds, UnionCodes}
-use Rattle.formula_laws.specs.Walks.{nextOver, callOver, walkOver, readsOf, Walked}
+use Rattle.formula_laws.specs.Walks.{nextOver, callOver, walkOver, readsOf, FormulaWalked}
 use Rattle.formula_laws.proofs.Answers.{sounds}
 use Rattle.formula_laws.proofs.Calls.{formula-kept, formula-walked, formula-over, formula-spaced, and-reads-left, and-reads-right}
 use Rattle.claims.specs.Lent.{Lent}
@@ -39,19 +39,19 @@ module _ (a b c d : List ℕ) where
   module _ {cs : List ℕ} (l : Lent ss cs) where
     -- "However it is cut by read budgets, a walk that ends has handed out exactly the formula's members, each once, ascending, and reported
     -- the count of words that the definition says it reads." Its calls may be next and fill in any mix.
-    pub walk-members : (k : Cursor) (q : List Ask) → walkOver ss cs k q .over ≡ true → Walked ss cs k (walkOver ss cs k q)
+    pub walk-members : (k : Cursor) (q : List Ask) → walkOver ss cs k q .over ≡ true → FormulaWalked ss cs k (walkOver ss cs k q)
     walk-members = formula-walked a b c d cs (l .accepted) (sounds-lent l)
 
     -- it does end, and no call refuses or reads past its budget
-    pub walk-ends : (k : Cursor) (q : List Ask) → Some q → allReads (wordsOf ss cs) (top (cap a)) + length (allIds (wordsOf ss cs) (top (cap a))) ≤ length q
+    pub walk-ends : (k : Cursor) (q : List Ask) → Some q → allReads (formulaWords ss cs) (top (cap a)) + length (allIds (formulaWords ss cs) (top (cap a))) ≤ length q
         → walkOver ss cs k q .over ≡ true
     walk-ends = formula-over a b c d cs (l .accepted) (sounds-lent l)
 
-    pub walk-keeps : (k : Cursor) (q : List Ask) → AllStopped (callOver ss cs) q (startIn ss cs k .cursor)
+    pub walk-keeps : (k : Cursor) (q : List Ask) → AllStopped (callOver ss cs) q (formulaStartIn ss cs k .cursor)
     walk-keeps = formula-kept a b c d cs (l .accepted) (sounds-lent l)
 
     -- "On one store or a union of stores, after the top word, at most three words are read before each next member and none before the end."
-    pub walk-gaps : UnionCodes cs → (k : Cursor) (bs : List ℕ) → Spaced (top (cap a)) (nextOver ss cs) bs (startIn ss cs k .cursor) 0
+    pub walk-gaps : UnionCodes cs → (k : Cursor) (bs : List ℕ) → Spaced (top (cap a)) (nextOver ss cs) bs (formulaStartIn ss cs k .cursor) 0
     walk-gaps = formula-spaced a b c d cs (l .accepted) (sounds-lent l)
 
   -- "An intersection reads no more than either side alone."

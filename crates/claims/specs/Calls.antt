@@ -1,13 +1,15 @@
 -- Every public call of document 01 with its arguments, and what its contract promises: one list, for what is said of all of them.
+use mathlib.Core.Bool.{Bool, true, false, _||_}
 use mathlib.Core.List.{List, [], _∷_}
 use mathlib.Core.Path.{_≡_, refl, ap}
-use Prim.Native.Nat.{ℕ, _≤_}
+use Prim.Native.Nat.{ℕ}
+use lib.Dec.{eqb}
 use lib.ListN.{length, getD}
 use denote.Ref.{RefT, now}
 use Rattle.util.specs.Outcome.{Outcome, Paper, Settled}
 use Rattle.average.specs.Average.{averageOf, paper as halfPaper}
 use Rattle.store.specs.Answer.{askedPaper, didPaper, foundPaper, readPaper}
-use Rattle.store.specs.Layout.{cap}
+use Rattle.store.specs.Layout.{topMost, cap}
 use Rattle.store.specs.declared.Asked.the-variants.{Refused as AskedRefused}
 use Rattle.store.specs.declared.Did.{Did}
 use Rattle.store.specs.declared.Did.the-variants.{Refused as DidRefused}
@@ -31,14 +33,16 @@ use Rattle.walk_batches.specs.Calls.{startedOf}
 use Rattle.walk_reader.specs.Readers.{told}
 use Rattle.walk_reader.specs.declared.BitIter.{BitIter}
 use Rattle.walk_reader.specs.declared.Told.{Told}
-use Rattle.formula_ask.specs.Calls.{layerWordOf, containsOf as formulaContainsOf, isEmptyOf as formulaIsEmptyOf}
-use Rattle.formula_walk.specs.Calls.{startOf as formulaStartOf, nextOf as formulaNextOf}
-use Rattle.formula_fill.specs.Calls.{fillOf as formulaFillOf}
+use Rattle.formula_ask.specs.Calls.{layerWordOf, formulaContainsOf, formulaIsEmptyOf}
+use Rattle.formula_walk.specs.Calls.{formulaStartOf, formulaNextOf}
+use Rattle.formula_fill.specs.Calls.{formulaFillOf}
 use Rattle.ops_merge.specs.Calls.{BothSound, Assigned}
 use Rattle.map_write.specs.Answer.{wrotePaper}
-use Rattle.map_write.specs.Calls.{writeOf}
+use Rattle.map_write.specs.Calls.{mapLengthOf, writeOf}
 use Rattle.map_write.specs.declared.Wrote.the-variants.{Refused as WroteRefused}
-use Rattle.map_read.specs.Calls.{readOf}
+use Rattle.map_read.specs.Answer.{mapForPaper}
+use Rattle.map_read.specs.Calls.{mapCapacityOf, readOf}
+use Rattle.map_read.specs.declared.MapFor.the-variants.{Refused as MapForRefused}
 
 -- ---- promises
 
@@ -51,11 +55,11 @@ pub data Promise : Type 1 where
   merges : ℕ → List ℕ → List ℕ → Promise
   makes : RefT (List ℕ) → Cursor → Promise
 
-abbrev pub Answer : Promise → Type 0
-Answer (fixes {R = R} p f x o) = R
-Answer (tells {R = R} p o) = R
-Answer (merges op s t) = Did
-Answer (makes s c) = BitIter
+abbrev pub Answered : Promise → Type 0
+Answered (fixes {R = R} p f x o) = R
+Answered (tells {R = R} p o) = R
+Answered (merges op s t) = Did
+Answered (makes s c) = BitIter
 
 abbrev pub Memory : Promise → Type 0
 Memory (fixes {X = X} p f x o) = X
@@ -64,7 +68,7 @@ Memory (merges op s t) = List ℕ
 Memory (makes s c) = Unit {0}
 
 -- the answer r and the memory y at exit meet the promise: what the contract's `ensures` says
-abbrev pub Meets : (p : Promise) → Answer p → Memory p → Type 0
+abbrev pub Meets : (p : Promise) → Answered p → Memory p → Type 0
 Meets (fixes p f x o) r y = Settled p o r y
 Meets (tells p o) r y = Settled p o r y
 Meets (merges op s t) r y = Assigned op s t r y
@@ -73,24 +77,28 @@ Meets (makes s c) r y = (r .store ≡ s) × (r .cursor ≡ c)
 -- ---- refusals
 
 -- "Each returns its number": a refusal's number stands first on paper, and is 0 where nothing is refused
-abbrev pub refusal : (p : Promise) → Answer p → ℕ
+abbrev pub refusal : (p : Promise) → Answered p → ℕ
 refusal (fixes p f x o) r = getD (p .numbers r) 0 0
 refusal (tells p o) r = 0
 refusal (merges op s t) r = getD (didPaper .numbers r) 0 0
 refusal (makes s c) r = 0
 
--- the last number of the table "Refusals by number"
-abbrev pub lastRefusal : ℕ
-lastRefusal = 12
+-- the table "Refusals by number"
+abbrev pub refusalNumbers : List ℕ
+refusalNumbers = 1 ∷ 2 ∷ 3 ∷ 4 ∷ 5 ∷ 6 ∷ 7 ∷ 8 ∷ 9 ∷ 10 ∷ 11 ∷ 12 ∷ []
+
+abbrev pub isAmong : List ℕ → ℕ → Bool
+isAmong [] n = false
+isAmong (m ∷ l) n = eqb n m || isAmong l n
 
 -- "Each returns its number and zeros elsewhere and changes nothing lent; a refused next hands back its cursor as given." The number n is one
 -- of the table, and f n is the answer with zeros elsewhere.
 pub record Refuses {R X : Type 0} (f : ℕ → R) (x : X) (n : ℕ) (r : R) (y : X) : Type 0 where
-  pub known : n ≤ lastRefusal
+  pub known : isAmong refusalNumbers n ≡ true
   pub answer : r ≡ f n
   pub memory : y ≡ x
 
-abbrev pub Refused : (p : Promise) → Answer p → Memory p → Type 0
+abbrev pub Refused : (p : Promise) → Answered p → Memory p → Type 0
 Refused (fixes p f x o) r y = Refuses f x (refusal (fixes p f x o) r) r y
 Refused (tells p o) r y = ⊥
 Refused (merges op s t) r y = Refuses DidRefused s (refusal (merges op s t) r) r y
@@ -106,7 +114,7 @@ Whole (merges op s t) = BothSound s t
 Whole (makes s c) = Unit {0}
 
 -- what two outcomes share for every input: all, but in place the answer, the length and word 0
-abbrev pub Alike : (p : Promise) → Answer p → Memory p → Answer p → Memory p → Type 0
+abbrev pub Alike : (p : Promise) → Answered p → Memory p → Answered p → Memory p → Type 0
 Alike (fixes p f x o) r y r′ y′ = (r ≡ r′) × (y ≡ y′)
 Alike (tells p o) r y r′ y′ = (r ≡ r′) × (y ≡ y′)
 Alike (merges op s t) r y r′ y′ = (r ≡ r′) × (length y ≡ length y′) × (cap y ≡ cap y′)
@@ -130,12 +138,12 @@ partBack (w ∷ l) = refl
 abbrev pub partPaper : Paper (List ℕ)
 partPaper = record { numbers = partNumbers; answer = partAnswer; same = partBack }
 
-abbrev pub partOf : List ℕ → ℕ → Outcome (Unit {0})
-partOf s k = record { numbers = partPaper .numbers (layerPart s k); lent = tt }
+abbrev pub layerPartOf : List ℕ → ℕ → Outcome (Unit {0})
+layerPartOf s k = record { numbers = partPaper .numbers (layerPart s k); lent = tt }
 
 -- A reader's step, on paper: "the reads made and one of: member, paused, end". The reader keeps the cursor, so zeros stand for it.
 abbrev stepOf : Told → Step
-stepOf a = record { cursor = startAt 3 0; reads = a .reads; answer = a .answer }
+stepOf a = record { cursor = startAt topMost 0; reads = a .reads; answer = a .answer }
 
 abbrev pub toldPaper : Paper Told
 toldPaper = record {
@@ -146,15 +154,15 @@ toldPaper = record {
 
 -- a refused step of a reader: its number and no reads
 abbrev pub toldRefused : ℕ → Told
-toldRefused n = told (refused n (startAt 3 0))
+toldRefused n = told (refused n (startAt topMost 0))
 
 -- a reader's step: what it tells, and what is lent with the step's cursor in it
 abbrev pub toldOf : {X : Type 0} → Step → (Cursor → X) → Outcome X
 toldOf a at = record { numbers = toldPaper .numbers (told a); lent = at (a .cursor) }
 
 -- the reader of the same store at another cursor
-abbrev pub moved : BitIter → Cursor → BitIter
-moved it c = record { store = it .store; cursor = c }
+abbrev pub movedTo : BitIter → Cursor → BitIter
+movedTo it c = record { store = it .store; cursor = c }
 
 -- what a reader's `next` ensures, by equations, where a is the step
 abbrev pub Moves : BitIter → Step → Told → BitIter → Type 0
@@ -185,6 +193,8 @@ pub data Call : Type 0 where
   fillF : (ss : List (List ℕ)) (cs : List ℕ) (c : Cursor) (b : ℕ) (out : List ℕ) → Call
   write : (s m : List ℕ) → Call
   read : (m s : List ℕ) → Call
+  mapLength : (s : List ℕ) → Call
+  mapCapacity : (m : List ℕ) → Call
   iterR : (v : RefT (List ℕ)) → Call
   nextR : (it : BitIter) (b : ℕ) → Call
   firstR : (s : List ℕ) (b : ℕ) → Call
@@ -205,7 +215,7 @@ promiseOf (clear s) = fixes didPaper DidRefused s (clearOf s)
 promiseOf (containsSet s t) = fixes askedPaper AskedRefused tt (containsSetOf s t)
 promiseOf (equal s t) = fixes askedPaper AskedRefused tt (equalOf s t)
 promiseOf (getFromLayer s k i) = fixes readPaper ReadRefused tt (wordOf s k i)
-promiseOf (layerAsSlice s k) = fixes partPaper (λ n. []) tt (partOf s k)
+promiseOf (layerAsSlice s k) = fixes partPaper (λ n. []) tt (layerPartOf s k)
 promiseOf (averageOnes w) = tells halfPaper (averageOf w)
 promiseOf (firstFree s) = fixes foundPaper FoundRefused tt (firstFreeOf s)
 promiseOf (isSound s) = fixes askedPaper AskedRefused tt (isSoundOf s)
@@ -224,6 +234,8 @@ promiseOf (nextF ss cs c b) = fixes stepPaper (λ n. refused n c) tt (formulaNex
 promiseOf (fillF ss cs c b out) = fixes batchPaper (noBatch c) out (formulaFillOf ss cs c b out)
 promiseOf (write s m) = fixes wrotePaper WroteRefused m (writeOf s m)
 promiseOf (read m s) = fixes didPaper DidRefused s (readOf m s)
+promiseOf (mapLength s) = fixes wrotePaper WroteRefused tt (mapLengthOf s)
+promiseOf (mapCapacity m) = fixes mapForPaper MapForRefused tt (mapCapacityOf m)
 promiseOf (iterR v) = makes v (startedOf (now v))
-promiseOf (nextR it b) = fixes toldPaper toldRefused it (toldOf (nextIn (now (it .store)) (it .cursor) b) (moved it))
+promiseOf (nextR it b) = fixes toldPaper toldRefused it (toldOf (nextIn (now (it .store)) (it .cursor) b) (movedTo it))
 promiseOf (firstR s b) = fixes toldPaper toldRefused tt (toldOf {X = Unit {0}} (nextIn s (startedOf s) b) (λ c. tt))

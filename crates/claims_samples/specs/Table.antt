@@ -19,7 +19,7 @@ use Rattle.walk_laws.specs.Calls.{Ask, Run}
 use Rattle.walk_laws.specs.Calls.Ask.{one as nextBy}
 use Rattle.walk_laws.specs.Walks.{walkOn}
 use Rattle.formula_codes.specs.Tree.{four}
-use Rattle.formula_walk.specs.Calls.{startIn as startOver}
+use Rattle.formula_walk.specs.Calls.{formulaStartIn as startOver}
 use Rattle.formula_laws.specs.Walks.{walkOver}
 use Rattle.ops_merge.specs.Calls.{assignOf}
 use Rattle.map_write.specs.Calls.{writeOf}
@@ -49,8 +49,8 @@ told r w = cond (w .over) 1 0 ∷ (r + w .total) ∷ w .members
 abbrev nines : List Ask
 nines = nextBy 9 ∷ nextBy 9 ∷ nextBy 9 ∷ []
 
-abbrev pub walked : List ℕ → List ℕ
-walked s = told (startIn s zeros .reads) (walkOn s zeros nines)
+abbrev pub sampleWalk : List ℕ → List ℕ
+sampleWalk s = told (startIn s zeros .reads) (walkOn s zeros nines)
 
 abbrev both : List ℕ
 both = 0 ∷ 1 ∷ 16 ∷ []
@@ -115,7 +115,7 @@ p456 =
 -- P7, "{5, 262151} and {5}: the result is {5}, walked": the sets s and t, in place and lazily
 unfoldable pub p7 : List ℕ → List ℕ → List Row
 p7 s t =
-    record { gives = walked (anded s t); says = 1 ∷ 4 ∷ 5 ∷ [] }
+    record { gives = sampleWalk (anded s t); says = 1 ∷ 4 ∷ 5 ∷ [] }
     ∷ record { gives = walkedAnd s t; says = 1 ∷ 4 ∷ 5 ∷ [] }
     ∷ []
 
@@ -124,12 +124,12 @@ unfoldable pub p8 : List ℕ → List ℕ → List Row
 p8 s t =
     record { gives = walkedAnd s t; says = 1 ∷ 4 ∷ [] }
     ∷ record { gives = isEmptyOf (anded s t) .numbers; says = 0 ∷ 1 ∷ [] }
-    ∷ record { gives = walked (anded s t); says = 1 ∷ 1 ∷ [] }
+    ∷ record { gives = sampleWalk (anded s t); says = 1 ∷ 1 ∷ [] }
     ∷ []
 
 -- P9, "walk of {5, 262151}: 7 reads.": the set s
 unfoldable pub p9 : List ℕ → List Row
-p9 s = record { gives = walked s; says = 1 ∷ 7 ∷ 5 ∷ 262151 ∷ [] } ∷ []
+p9 s = record { gives = sampleWalk s; says = 1 ∷ 7 ∷ 5 ∷ 262151 ∷ [] } ∷ []
 
 -- P10, "the same, budget 2 pauses with 2 reads; budget 1 then gives 5."
 unfoldable pub p10 : List ℕ → List Row

@@ -5,8 +5,8 @@ use Rattle.export_answer.specs.Abi.{answerOf, bitOf}
 use Rattle.export_answer.specs.declared.Answer.{Answer}
 
 -- the numbers of an answer that is known
-pub told : {R : Type 0} (p : Paper R) {r r′ : R} {a : Answer} → a ≡ answerOf (p .numbers r′) → r ≡ r′ → a ≡ answerOf (p .numbers r)
-told p e same = e ∙ ap (λ (x : _). answerOf (p .numbers x)) (sym same)
+pub tells-paper : {R : Type 0} (p : Paper R) {r r′ : R} {a : Answer} → a ≡ answerOf (p .numbers r′) → r ≡ r′ → a ≡ answerOf (p .numbers r)
+tells-paper p e same = e ∙ ap (λ (x : _). answerOf (p .numbers x)) (sym same)
 
 -- where the call is settled
 pub tells : {R X : Type 0} (p : Paper R) {o : Outcome X} {r : R} {x : X} {a : Answer} → Settled p o r x → a ≡ answerOf (p .numbers r)

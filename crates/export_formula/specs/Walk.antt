@@ -2,8 +2,8 @@
 use mathlib.Core.List.{List}
 use Prim.Native.Nat.{ℕ}
 use Rattle.walk.specs.declared.Step.{Step}
-use Rattle.formula_walk.specs.Calls.{startIn}
+use Rattle.formula_walk.specs.Calls.{formulaStartIn}
 use Rattle.export_cursor.specs.Ten.{cursorOf}
 
-abbrev pub startedOf : List (List ℕ) → List ℕ → List ℕ → Step
-startedOf ss cs l = startIn ss cs (cursorOf l)
+abbrev pub formulaStarted : List (List ℕ) → List ℕ → List ℕ → Step
+formulaStarted ss cs l = formulaStartIn ss cs (cursorOf l)

@@ -4,12 +4,12 @@ use Prim.Native.Nat.{ℕ}
 use lib.ListN.{length}
 use Rattle.walk.specs.declared.Step.{Step}
 use Rattle.walk_fill.specs.Fill.{Filled}
-use Rattle.formula_walk.specs.Calls.{nextIn}
-use Rattle.formula_fill.specs.Calls.{fillIn}
+use Rattle.formula_walk.specs.Calls.{formulaNextIn}
+use Rattle.formula_fill.specs.Calls.{formulaFillIn}
 use Rattle.export_cursor.specs.Ten.{cursorOf}
 
-abbrev pub steppedOf : List (List ℕ) → List ℕ → List ℕ → ℕ → Step
-steppedOf ss cs l b = nextIn ss cs (cursorOf l) b
+abbrev pub formulaStepped : List (List ℕ) → List ℕ → List ℕ → ℕ → Step
+formulaStepped ss cs l b = formulaNextIn ss cs (cursorOf l) b
 
-abbrev pub filledOf : List (List ℕ) → List ℕ → List ℕ → ℕ → List ℕ → Filled
-filledOf ss cs l b out = fillIn ss cs (cursorOf l) b (length out)
+abbrev pub formulaFilled : List (List ℕ) → List ℕ → List ℕ → ℕ → List ℕ → Filled
+formulaFilled ss cs l b out = formulaFillIn ss cs (cursorOf l) b (length out)

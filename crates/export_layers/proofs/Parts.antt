@@ -4,7 +4,8 @@ use mathlib.Core.List.{List}
 use mathlib.Core.Path.{_≡_, refl, sym, ap₂, _∙_}
 use Prim.Native.Nat.{ℕ, suc, _+_, _-_, _≤_}
 use native.Mathlib.Omega.{arith}
-use Rattle.store.specs.Layout.{top, layerLen, cap, isStore, StoreOf, endOf}
+use lib.ListN.{length}
+use Rattle.store.specs.Layout.{top, layerLen, cap, isStore, StoreOf, endOf, startFrom}
 use Rattle.store.proofs.Ends.{part}
 use Rattle.store.proofs.Geometry.{is-store, store-is, room-falls}
 use Rattle.set_layers.specs.Calls.{layerPart}
@@ -16,13 +17,13 @@ use Rattle.export_layers.specs.Parts.{partOf, partWords}
 abbrev at : ℕ → ℕ → Part
 at a n = record { start = a; length = n }
 
-pub part-none : (s : List ℕ) (k : ℕ) → isStore s ≡ false → at 0 0 ≡ partOf s k
+pub span-none : (s : List ℕ) (k : ℕ) → isStore s ≡ false → at 0 0 ≡ partOf s k
 unfolding partOf
-part-none s k h = sym (rw h)
+span-none s k h = sym (rw h)
 
-pub part-is : {N : ℕ} {s : List ℕ} → StoreOf N s → (k a e : ℕ) → k ≤ top N → a ≡ endOf N (k + 1) → e ≡ endOf N k → at a (e - a) ≡ partOf s k
+pub span-is : {N : ℕ} {s : List ℕ} → StoreOf N s → (k a e : ℕ) → k ≤ top N → a ≡ startFrom (length s) N k → e ≡ endOf N k → at a (e - a) ≡ partOf s k
 unfolding partOf
-part-is {N} {s} z k a e h a-is e-is =
+span-is {N} {s} z k a e h a-is e-is =
     let p = part z k h in
     let n : e - a ≡ layerLen N k = omega (arith, a-is, p .starts, e-is, p .ends, p .size) in
     ap₂ at (a-is ∙ p .starts) n ∙ sym (rw (is-store z, z .names))

@@ -1,15 +1,15 @@
 // Reading the layers, for C and Rust: slices arrive as pointer and length, and a layer is told by where it stands.
 ghost use mathlib.Core.Path.{_≡_};
-ghost use Prim.Native.Nat.{_≤_};
+ghost use Prim.Native.Nat.{_<_};
 ghost use Rattle.set_layers.specs.Calls.{wordOf};
 ghost use Rattle.export_answer.specs.Abi.{answerOf};
 ghost use Rattle.export_layers.specs.Parts.{partOf};
 use export_answer::Answer;
 use export_answer::Part;
 
-// Where layer k stands in its store.
+// Where layer k, one of the three that are handed back, stands in its store.
 fn part(store: &[u64], k: usize) -> Part
-    requires { ⌜ k ≤ 3 ⌝ }
+    requires { ⌜ k < 3 ⌝ }
     ensures { λ r. ⌜ r ≡ partOf (now (store .entry)) k ⌝ }
 {
     let n = store::capacity(store);
@@ -19,7 +19,7 @@ fn part(store: &[u64], k: usize) -> Part
             length: 0,
         };
     }
-    let a = store::end(n, k + 1);
+    let a = store::start(store.len(), n, k);
     let e = store::end(n, k);
     Part {
         start: a as u64,

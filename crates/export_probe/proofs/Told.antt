@@ -2,17 +2,17 @@
 use mathlib.Core.Path.{_≡_, sym, ap, _∙_}
 use Prim.Native.Nat.{ℕ}
 use borrow.Author.Tests.{eq-eqb, ne-eqb}
-use Rattle.walk.specs.declared.Step.{Step as Stepped}
+use Rattle.walk.specs.declared.Step.{Step}
 use Rattle.walk_reader.specs.Readers.{told}
 use Rattle.walk_reader.specs.declared.Told.{Told}
 use Rattle.export_step.specs.Answers.{stepOf, movedOf}
-use Rattle.export_step.specs.declared.Step.{Step}
+use Rattle.export_step.specs.declared.StepAnswer.{StepAnswer}
 use Rattle.export_probe.specs.First.{readsLeft}
 
-abbrev kind : Step → ℕ
+abbrev kind : StepAnswer → ℕ
 kind a = a .which
 
-module _ (f : Stepped) {a : Step} where
+module _ (f : Step) {a : StepAnswer} where
   pub answer-is : {t : Told} → a ≡ stepOf (t .answer) → t ≡ told f → a ≡ movedOf f
   answer-is m e = m ∙ ap (λ (x : Told). stepOf (x .answer)) e
 

@@ -5,7 +5,7 @@ ghost use mathlib.Core.Path.{_≡_};
 ghost use Rattle.util.specs.Row.{rowOf, offsetOf, maskOf};
 ghost use Rattle.export_step.specs.Answers.{movedOf};
 ghost use Rattle.export_probe.specs.First.{firstIn, readsLeft};
-use export_step::Step;
+use export_step::StepAnswer;
 
 #[no_mangle]
 pub extern "C" fn fen_probe_row(id: u32, shift: usize) -> usize
@@ -37,7 +37,7 @@ pub extern "C" fn fen_probe_offsets(id: u32, words: &mut [u64; 3])
 }
 
 #[no_mangle]
-pub extern "C" fn fen_probe_first(store: &[u64], budget: u64, reads: &mut u64) -> Step
+pub extern "C" fn fen_probe_first(store: &[u64], budget: u64, reads: &mut u64) -> StepAnswer
     ensures { λ r. ⌜ r ≡ movedOf (firstIn (now (store .entry)) budget) ⌝ }
     ensures { λ r. ⌜ now (reads .exit) ≡ readsLeft (firstIn (now (store .entry)) budget) (now (reads .entry)) ⌝ }
 {

@@ -2,7 +2,8 @@
 ghost use mathlib.Core.Path.{_≡_};
 ghost use Prim.Native.Nat.{_<_};
 ghost use lib.ListN.{getD};
-ghost use Rattle.export_quick.specs.Handing.{readyOf, idOf, handedOf, quickOf, quickWords};
+ghost use Rattle.store.specs.Layout.{maxCap};
+ghost use Rattle.export_quick.specs.Handing.{readyOf, handedId, handedOf, quickOf, quickWords};
 
 // A member that is at hand, or none and 0.
 pub struct Hand {
@@ -25,8 +26,8 @@ fn ready(store: &[u64], words: &[u64; 10]) -> bool
 
 // Layer 0's lowest bit is handed out, with no read.
 fn give(words: &mut [u64; 10]) -> u64
-    requires { ⌜ (0 < getD (now words) 0 0) × (getD (now words) 5 0 < 16777216) ⌝ }
-    ensures { λ r. ⌜ r ≡ idOf (now (words .entry)) ⌝ }
+    requires { ⌜ (0 < getD (now words) 0 0) × (getD (now words) 5 0 < maxCap) ⌝ }
+    ensures { λ r. ⌜ r ≡ handedId (now (words .entry)) ⌝ }
     ensures { λ r. ⌜ now (words .exit) ≡ handedOf (now (words .entry)) ⌝ }
 {
     let m = words[0];

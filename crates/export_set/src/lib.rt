@@ -1,6 +1,7 @@
 // The calls on ids and the free search, for C and Rust: slices arrive as pointer and length.
 ghost use mathlib.Core.Path.{_≡_};
-ghost use Rattle.set_edit.specs.Calls.{containsOf, addOf, removeOf, addListOf};
+ghost use Rattle.set_member.specs.Calls.{containsOf};
+ghost use Rattle.set_edit.specs.Calls.{addOf, removeOf, addListOf};
 ghost use Rattle.set_free.specs.Calls.{firstFreeOf};
 ghost use Rattle.export_answer.specs.Abi.{answerOf};
 use export_answer::Answer;
@@ -9,7 +10,7 @@ use export_answer::Answer;
 pub extern "C" fn fen_contains(store: &[u64], id: u32) -> Answer
     ensures { λ r. ⌜ r ≡ answerOf (containsOf (now (store .entry)) id .numbers) ⌝ }
 {
-    export_answer::asked(set_edit::contains(store, id))
+    export_answer::asked(set_member::contains(store, id))
 }
 
 #[no_mangle]

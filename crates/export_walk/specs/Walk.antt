@@ -3,17 +3,17 @@ use mathlib.Core.List.{List}
 use Prim.Native.Nat.{ℕ}
 use lib.ListN.{length}
 use Rattle.walk.specs.Calls.{startIn, nextIn}
-use Rattle.walk.specs.declared.Step.{Step as Stepped}
+use Rattle.walk.specs.declared.Step.{Step}
 use Rattle.walk_fill.specs.Fill.{Filled, fillIn}
 use Rattle.export_cursor.specs.Ten.{cursorOf}
 
 -- ---- the calls on a store s and the words l
 
-abbrev pub startedOf : List ℕ → List ℕ → Stepped
-startedOf s l = startIn s (cursorOf l)
+abbrev pub walkStarted : List ℕ → List ℕ → Step
+walkStarted s l = startIn s (cursorOf l)
 
-abbrev pub steppedOf : List ℕ → List ℕ → ℕ → Stepped
-steppedOf s l b = nextIn s (cursorOf l) b
+abbrev pub walkStepped : List ℕ → List ℕ → ℕ → Step
+walkStepped s l b = nextIn s (cursorOf l) b
 
-abbrev pub filledOf : List ℕ → List ℕ → ℕ → List ℕ → Filled
-filledOf s l b out = fillIn s (cursorOf l) b (length out)
+abbrev pub walkFilled : List ℕ → List ℕ → ℕ → List ℕ → Filled
+walkFilled s l b out = fillIn s (cursorOf l) b (length out)

@@ -18,8 +18,8 @@ abbrev pub capOf : List (List ℕ) → ℕ
 capOf ss = cap (nth ss 0)
 
 -- the layer words of a formula, by layer number and index
-abbrev pub wordsOf : List (List ℕ) → List ℕ → ℕ → ℕ → ℕ
-wordsOf ss cs = treeWord (capOf ss) ss (treeOf cs)
+abbrev pub formulaWords : List (List ℕ) → List ℕ → ℕ → ℕ → ℕ
+formulaWords ss cs = treeWord (capOf ss) ss (treeOf cs)
 
 -- "A layer word is read by layer number and index; the top layer ignores the index, as the crate does". Refusal 4: "layer number above 3".
 unfoldable pub layerWordOf : List (List ℕ) → List ℕ → ℕ → ℕ → Outcome (Unit {0})
@@ -27,17 +27,17 @@ layerWordOf ss cs k i =
     let N = capOf ss in
     let no = storesOf ss in
     cond (eqb no 0)
-    (cond (leb k (top N)) (cond (isFormula ss cs) (gives (wordsOf ss cs k (indexIn N k i)) tt) (refuses 6 tt)) (refuses 4 tt))
+    (cond (leb k (top N)) (cond (isFormula ss cs) (gives (formulaWords ss cs k (indexIn N k i)) tt) (refuses 6 tt)) (refuses 4 tt))
     (refuses no tt)
 
 -- the id's bit of layer 0, "and `contains` is no at and above N"
-unfoldable pub containsOf : List (List ℕ) → List ℕ → ℕ → Outcome (Unit {0})
-containsOf ss cs i =
+unfoldable pub formulaContainsOf : List (List ℕ) → List ℕ → ℕ → Outcome (Unit {0})
+formulaContainsOf ss cs i =
     let no = checkOf ss cs in
-    cond (eqb no 0) (says (ltb i (capOf ss) && eqb (bit (wordsOf ss cs 0 (i / 64)) (i % 64)) 1) tt) (refuses no tt)
+    cond (eqb no 0) (says (ltb i (capOf ss) && eqb (bit (formulaWords ss cs 0 (i / 64)) (i % 64)) 1) tt) (refuses no tt)
 
 -- "A formula's `is_empty` reads only its layer-3 word, as the crate's."
-unfoldable pub isEmptyOf : List (List ℕ) → List ℕ → Outcome (Unit {0})
-isEmptyOf ss cs =
+unfoldable pub formulaIsEmptyOf : List (List ℕ) → List ℕ → Outcome (Unit {0})
+formulaIsEmptyOf ss cs =
     let no = checkOf ss cs in
-    cond (eqb no 0) (says (eqb (wordsOf ss cs (top (capOf ss)) 0) 0) tt) (refuses no tt)
+    cond (eqb no 0) (says (eqb (formulaWords ss cs (top (capOf ss)) 0) 0) tt) (refuses no tt)

@@ -3,17 +3,17 @@ ghost use mathlib.Core.Path.{_≡_};
 ghost use Rattle.util.specs.Outcome.{Settled};
 ghost use Rattle.store.specs.Answer.{askedPaper, readPaper};
 ghost use Rattle.formula_codes.specs.Tree.{four};
-ghost use Rattle.formula_ask.specs.Calls.{layerWordOf, containsOf, isEmptyOf};
+ghost use Rattle.formula_ask.specs.Calls.{layerWordOf, formulaContainsOf, formulaIsEmptyOf};
 ghost use Rattle.formula_ask.specs.Steps.{refusalAt};
 use store::Asked;
 use store::Read;
 
-// What a layer word is refused for, where the formula is refused for n, or for nothing: 2 and 5 come before a layer number above 3, and
-// 6 behind it.
-fn refusal(n: u32, layer: usize) -> u32
-    ensures { λ r. ⌜ r ≡ refusalAt n layer ⌝ }
+// What a layer word is refused for, where the formula is refused for n, or for nothing: 2 and 5 come before a layer number above the top
+// layer's, and 6 behind it.
+fn refusal(top: usize, n: u32, layer: usize) -> u32
+    ensures { λ r. ⌜ r ≡ refusalAt top n layer ⌝ }
 {
-    if layer <= 3 {
+    if layer <= top {
         return n;
     }
     if n == 0 {
@@ -32,28 +32,31 @@ pub fn get_from_layer(
     layer: usize,
     idx: usize,
 ) -> Read
-    ensures { λ r. ⌜ Settled readPaper (layerWordOf (four (now (s0 .entry)) (now (s1 .entry)) (now (s2 .entry)) (now (s3 .entry))) (now (codes .entry)) layer idx) r tt ⌝ }
+    ensures { λ r. ⌜ (let ss = four (now (s0 .entry)) (now (s1 .entry)) (now (s2 .entry)) (now (s3 .entry)) in
+        Settled readPaper (layerWordOf ss (now (codes .entry)) layer idx) r tt) ⌝ }
 {
-    let no = refusal(formula_codes::check(codes, s0, s1, s2, s3), layer);
+    let n = store::named(s0);
+    let top = store::top(n);
+    let no = refusal(top, formula_codes::check(codes, s0, s1, s2, s3), layer);
     if no != 0 {
         return Read::Refused(no);
     }
-    let n = store::get(s0, 0) as usize;
-    if layer == 3 {
-        return Read::Word(formula_word::word(codes, n, 3, 0, s0, s1, s2, s3));
+    if layer == top {
+        return Read::Word(formula_word::word(codes, n, top, 0, s0, s1, s2, s3));
     }
     Read::Word(formula_word::word(codes, n, layer, idx, s0, s1, s2, s3))
 }
 
 // Whether an id is a member of a formula; no at and past the capacity.
 pub fn contains(codes: &[u8], s0: &[u64], s1: &[u64], s2: &[u64], s3: &[u64], id: u32) -> Asked
-    ensures { λ r. ⌜ Settled askedPaper (containsOf (four (now (s0 .entry)) (now (s1 .entry)) (now (s2 .entry)) (now (s3 .entry))) (now (codes .entry)) id) r tt ⌝ }
+    ensures { λ r. ⌜ (let ss = four (now (s0 .entry)) (now (s1 .entry)) (now (s2 .entry)) (now (s3 .entry)) in
+        Settled askedPaper (formulaContainsOf ss (now (codes .entry)) id) r tt) ⌝ }
 {
     let no = formula_codes::check(codes, s0, s1, s2, s3);
     if no != 0 {
         return Asked::Refused(no);
     }
-    let n = store::get(s0, 0) as usize;
+    let n = store::named(s0);
     let i = id as usize;
     if n <= i {
         return Asked::Is(false);
@@ -63,12 +66,13 @@ pub fn contains(codes: &[u8], s0: &[u64], s1: &[u64], s2: &[u64], s3: &[u64], id
 
 // Whether the top word of a formula is 0: then it has no member.
 pub fn is_empty(codes: &[u8], s0: &[u64], s1: &[u64], s2: &[u64], s3: &[u64]) -> Asked
-    ensures { λ r. ⌜ Settled askedPaper (isEmptyOf (four (now (s0 .entry)) (now (s1 .entry)) (now (s2 .entry)) (now (s3 .entry))) (now (codes .entry))) r tt ⌝ }
+    ensures { λ r. ⌜ (let ss = four (now (s0 .entry)) (now (s1 .entry)) (now (s2 .entry)) (now (s3 .entry)) in
+        Settled askedPaper (formulaIsEmptyOf ss (now (codes .entry))) r tt) ⌝ }
 {
     let no = formula_codes::check(codes, s0, s1, s2, s3);
     if no != 0 {
         return Asked::Refused(no);
     }
-    let n = store::get(s0, 0) as usize;
-    Asked::Is(formula_word::word(codes, n, 3, 0, s0, s1, s2, s3) == 0)
+    let n = store::named(s0);
+    Asked::Is(formula_word::word(codes, n, store::top(n), 0, s0, s1, s2, s3) == 0)
 }

@@ -12,19 +12,19 @@ use lib.Dec.{leb, ltb}
 use lib.ListN.{length, getD, drop, drop-of-length-le}
 use lib.Seq.{drop-cons}
 use Rattle.util.proofs.Same.{both}
-use Rattle.formula_codes.specs.Codes.{kindOf, cutsIn, takes, takesIn, left}
-use Rattle.formula_codes.specs.Codes.Kind.{isStore, isUnknown}
-use Rattle.formula_codes.specs.Steps.{waiting, Going, Looking}
+use Rattle.formula_codes.specs.Codes.{codeKind, cutsIn, takes, takesIn, left}
+use Rattle.formula_codes.specs.Codes.CodeKind.{isStore, isUnknown}
+use Rattle.formula_codes.specs.Steps.{waiting, Counting, Looking}
 
 -- ---- the kinds
 
 module _ (c : ℕ) where
-  pub kind-store : c < 4 → kindOf c ≡ isStore
-  unfolding kindOf
+  pub kind-store : c < 4 → codeKind c ≡ isStore
+  unfolding codeKind
   kind-store h = rw (lt-ltb c 4 h)
 
-  pub kind-unknown : 4 ≤ c → (c < 16) ⊎ (19 ≤ c) → c ≢ 19 → c ≢ 20 → kindOf c ≡ isUnknown
-  unfolding kindOf
+  pub kind-unknown : 4 ≤ c → (c < 16) ⊎ (19 ≤ c) → c ≢ 19 → c ≢ 20 → codeKind c ≡ isUnknown
+  unfolding codeKind
   kind-unknown h o n19 n20 =
       let out : (n : ℕ) → 16 ≤ n → n < 19 → c ≢ n = λ n a b e. ⊎-elim (λ (l : c < 16). omega arith) (λ (l : 19 ≤ c). omega arith) o in
       rw (
@@ -48,19 +48,19 @@ module _ (ls : List ℕ) (c : ℕ) where
   takes-missing h e = sym (rw (kind-store c h, e))
 
   pub takes-two : 16 ≤ c → c < 19 → 2 ≡ takesIn ls c
-  unfolding takesIn kindOf
+  unfolding takesIn codeKind
   takes-two h l = go (ℕ-discrete c 16) (ℕ-discrete c 17)
     where
-      go : Dec (c ≡ 16) → Dec (c ≡ 17) → 2 ≡ takes (kindOf c) (ltb 0 (getD ls c 0))
+      go : Dec (c ≡ 16) → Dec (c ≡ 17) → 2 ≡ takes (codeKind c) (ltb 0 (getD ls c 0))
       go (yes e) d = sym (rw e)
       go (no a) (yes e) = sym (rw e)
       go (no a) (no b) = let e : c ≡ 18 = omega arith in sym (rw e)
 
   pub takes-last : 19 ≤ c → c < 21 → 20 - c ≡ takesIn ls c
-  unfolding takesIn kindOf
+  unfolding takesIn codeKind
   takes-last h l = go (ℕ-discrete c 19)
     where
-      go : Dec (c ≡ 19) → 20 - c ≡ takes (kindOf c) (ltb 0 (getD ls c 0))
+      go : Dec (c ≡ 19) → 20 - c ≡ takes (codeKind c) (ltb 0 (getD ls c 0))
       go (yes e) = rw e
       go (no n) = let e : c ≡ 20 = omega arith in rw e
 
@@ -92,10 +92,10 @@ none-waits {d} {t} few e = too-few t d (omega (arith, e))
 pub as-taken : (d : ℕ) {t x r : ℕ} → r ≡ waiting t d → t ≡ x → r ≡ waiting x d
 as-taken d e f = e ∙ ap (λ (y : ℕ). waiting y d) f
 
-pub going-start : (ls cs : List ℕ) → Going ls cs 0 0
-going-start ls cs = record { few = omega arith; same = refl }
+pub counting-start : (ls cs : List ℕ) → Counting ls cs 0 0
+counting-start ls cs = record { few = omega arith; same = refl }
 
-module _ {ls cs : List ℕ} {d j r : ℕ} (g : Going ls cs d j) (more : j < length cs) (r-is : r ≡ waiting (takesIn ls (getD cs j 0)) d) where
+module _ {ls cs : List ℕ} {d j r : ℕ} (g : Counting ls cs d j) (more : j < length cs) (r-is : r ≡ waiting (takesIn ls (getD cs j 0)) d) where
   abbrev t : ℕ
   t = takesIn ls (getD cs j 0)
 
@@ -115,14 +115,14 @@ module _ {ls cs : List ℕ} {d j r : ℕ} (g : Going ls cs d j) (more : j < leng
       go true e = absurd (omega (arith, h, by-test true e))
       go false e = sym (rw e) ∙ here
 
-  pub goes-on : r ≢ 0 → Going ls cs r (j + 1)
+  pub goes-on : r ≢ 0 → Counting ls cs r (j + 1)
   goes-on h = go (leb t d && ltb (d - t) 8) refl
     where
-      go : (x : Bool) → (leb t d && ltb (d - t) 8) ≡ x → Going ls cs r (j + 1)
+      go : (x : Bool) → (leb t d && ltb (d - t) 8) ≡ x → Counting ls cs r (j + 1)
       go true e = record { few = omega (arith, by-test true e, ltb-true (d - t) 8 (both (leb t d) (ltb (d - t) 8) e .1)); same = rw (add-one j, by-test true e) (sym (rw e) ∙ here) }
       go false e = absurd (h (by-test false e))
 
-pub all-done : {ls cs : List ℕ} {d j : ℕ} → Going ls cs d j → length cs ≤ j → d ≡ left ls cs 0
+pub all-done : {ls cs : List ℕ} {d j : ℕ} → Counting ls cs d j → length cs ≤ j → d ≡ left ls cs 0
 unfolding left
 all-done {ls} {cs} {d} g h = sym (ap (λ (l : List ℕ). left ls l d) (drop-of-length-le cs h)) ∙ g .same
 

@@ -9,11 +9,11 @@ use Rattle.formula_codes.specs.Tree.{Tree}
 use Rattle.formula_codes.specs.Tree.Tree.{store, both, either, oneOf, inverse, every}
 
 -- "0 to 3 a store, 16 and, 17 or, 18 xor, 19 not, 20 all; every other code is unknown."
-pub data Kind : Type 0 where
-  isStore isBoth isEither isOneOf isInverse isEvery isUnknown : Kind
+pub data CodeKind : Type 0 where
+  isStore isBoth isEither isOneOf isInverse isEvery isUnknown : CodeKind
 
-unfoldable pub kindOf : ℕ → Kind
-kindOf c =
+unfoldable pub codeKind : ℕ → CodeKind
+codeKind c =
     cond (ltb c 4) isStore
     (cond (eqb c 16) isBoth
     (cond (eqb c 17) isEither
@@ -34,7 +34,7 @@ turnOne f [] = []
 turnOne f (a ∷ st) = f a ∷ st
 
 -- one code on the trees that wait, the last of them first
-abbrev pub grow : Kind → ℕ → List Tree → List Tree
+abbrev pub grow : CodeKind → ℕ → List Tree → List Tree
 grow isStore c st = store c ∷ st
 grow isBoth c st = joinTwo both st
 grow isEither c st = joinTwo either st
@@ -45,15 +45,15 @@ grow isUnknown c st = st
 
 unfoldable pub trees : List ℕ → List Tree → List Tree
 trees [] st = st
-trees (c ∷ cs) st = trees cs (grow (kindOf c) c st)
+trees (c ∷ cs) st = trees cs (grow (codeKind c) c st)
 
-abbrev pub firstOf : List Tree → Tree
-firstOf [] = every
-firstOf (e ∷ st) = e
+abbrev pub firstTree : List Tree → Tree
+firstTree [] = every
+firstTree (e ∷ st) = e
 
 -- the formula that the codes stand for
 unfoldable pub treeOf : List ℕ → Tree
-treeOf cs = firstOf (trees cs [])
+treeOf cs = firstTree (trees cs [])
 
 -- ---- which codes look at the bits that exist
 
@@ -65,7 +65,7 @@ cutsIn (c ∷ cs) = leb 19 c || cutsIn cs
 -- ---- the check
 
 -- the values that a code takes, of those that wait, before it puts one: 9, more than ever wait, for a code that may not stand there
-abbrev pub takes : Kind → Bool → ℕ
+abbrev pub takes : CodeKind → Bool → ℕ
 takes isStore lent = cond lent 0 9
 takes isBoth lent = 2
 takes isEither lent = 2
@@ -76,7 +76,7 @@ takes isUnknown lent = 9
 
 -- the values that a code takes where the four slices have these lengths: "an empty slice among the other three means not lent"
 unfoldable pub takesIn : List ℕ → ℕ → ℕ
-takesIn ls c = takes (kindOf c) (ltb 0 (getD ls c 0))
+takesIn ls c = takes (codeKind c) (ltb 0 (getD ls c 0))
 
 -- "At most 8 values wait at once and exactly one is left": how many wait after the codes, where d wait before them; 0 if some code finds
 -- too few values, or leaves eight of them where it would put one more

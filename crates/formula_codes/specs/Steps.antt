@@ -12,7 +12,7 @@ unfoldable pub waiting : ℕ → ℕ → ℕ
 waiting t d = cond (leb t d && ltb (d - t) 8) (suc (d - t)) 0
 
 -- after j codes d values wait, and what waits after the others is what waits after all
-pub record Going (ls cs : List ℕ) (d j : ℕ) : Type 0 where
+pub record Counting (ls cs : List ℕ) (d j : ℕ) : Type 0 where
   pub few : d ≤ 8
   pub same : left ls (drop j cs) d ≡ left ls cs 0
 

@@ -3,12 +3,13 @@
 use mathlib.Core.Bool.{cond}
 use mathlib.Core.List.{List, [], _∷_}
 use Prim.Native.Nat.{ℕ, zero, suc, _-_, _*_, _^_, min}
-use lib.Bits.{bitAnd, bitOr, bitXor}
+use lib.Bits.{bitAnd}
 use lib.Dec.{eqb}
 use lib.ListN.{getD}
 use Rattle.util.specs.Word.{flip}
 use Rattle.store.specs.Layout.{room}
 use Rattle.store.specs.Word.{word}
+use Rattle.ops_word.specs.Op.{opWord}
 
 -- "0 to 3 a store, 16 and, 17 or, 18 xor, 19 not, 20 all"
 pub data Tree : Type 0 where
@@ -24,13 +25,13 @@ unfoldable pub existing : ℕ → ℕ → ℕ
 existing places i = 2 ^ min 64 (places - i * 64) - 1
 
 -- "Xor: layer 0 exclusive or, layers 1 to 3 or."
-unfoldable pub xorIn : ℕ → ℕ → ℕ → ℕ
-xorIn zero a b = bitXor a b
-xorIn (suc k) a b = bitOr a b
+unfoldable pub xorIn : ℕ → ℕ
+xorIn zero = 18
+xorIn (suc k) = 17
 
 -- "16 and, 17 or, 18 xor": what a code makes of two words of layer k; every other code is taken for xor
 unfoldable pub joined : ℕ → ℕ → ℕ → ℕ → ℕ
-joined code k x y = cond (eqb code 16) (bitAnd x y) (cond (eqb code 17) (bitOr x y) (xorIn k x y))
+joined code k x y = opWord (cond (eqb code 16) 16 (cond (eqb code 17) 17 (xorIn k))) x y
 
 -- "Not: layer 0 inverted, layers 1 to 3 all ones. All: all ones. Not and all are cut to bits where an id or word exists."
 unfoldable pub notIn : ℕ → ℕ → ℕ → ℕ
@@ -40,9 +41,9 @@ notIn (suc k) cut a = cut
 -- a formula's word in layer k, where the stores' words there are w and the bits that exist are cut: "and, or as the crate"
 unfoldable pub value : (ℕ → ℕ) → ℕ → ℕ → Tree → ℕ
 value w k cut (store c) = w c
-value w k cut (both a b) = bitAnd (value w k cut a) (value w k cut b)
-value w k cut (either a b) = bitOr (value w k cut a) (value w k cut b)
-value w k cut (oneOf a b) = xorIn k (value w k cut a) (value w k cut b)
+value w k cut (both a b) = joined 16 k (value w k cut a) (value w k cut b)
+value w k cut (either a b) = joined 17 k (value w k cut a) (value w k cut b)
+value w k cut (oneOf a b) = joined 18 k (value w k cut a) (value w k cut b)
 value w k cut (inverse a) = notIn k cut (value w k cut a)
 value w k cut every = cut
 

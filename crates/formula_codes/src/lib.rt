@@ -10,21 +10,18 @@ ghost use Rattle.formula_codes.specs.Codes.{cutsIn, takesIn, left, isFor
 ghost use Rattle.formula_codes.specs.Steps.{waiting};
 ghost use Rattle.formula_codes.specs.Tree.{joined, four};
 
-// What a code makes of two words of layer k: 16 and, 17 or, 18 xor, and any other as 18. In this order of the arms the compiled code asks for
-// 16 first.
+// What a code makes of two words of layer k: 16 and, 17 or, 18 xor, and any other as 18. Above layer 0, xor is or.
 pub fn joined(code: u8, k: usize, x: u64, y: u64) -> u64
     ensures { λ r. ⌜ r ≡ joined code k x y ⌝ }
 {
-    match code {
-        17 => x | y,
-        16 => x & y,
-        _ => {
-            if k == 0 {
-                return x ^ y;
-            }
-            x | y
-        }
+    let op = code as u64;
+    if k == 0 {
+        return ops_word::combine(op, x, y);
     }
+    if op == ops_word::AND {
+        return ops_word::combine(ops_word::AND, x, y);
+    }
+    ops_word::combine(ops_word::OR, x, y)
 }
 
 // Whether some code is 19 or more: no other looks at which bits exist.
@@ -87,13 +84,14 @@ fn like(n: usize, len: usize, s: &[u64]) -> bool
     if s.len() != len {
         return false;
     }
-    s[0] == n as u64
+    store::named(s) == n
 }
 
 // The same of three slices.
 fn alike(n: usize, len: usize, s1: &[u64], s2: &[u64], s3: &[u64]) -> bool
     requires { ⌜ (1 ≤ n) × (n ≤ maxCap) × (len ≡ storeLen n) ⌝ }
-    ensures { λ r. ⌜ (r ≡ true → (0 ≡ besideOf n (now (s1 .entry))) × (0 ≡ besideOf n (now (s2 .entry))) × (0 ≡ besideOf n (now (s3 .entry)))) ⌝ }
+    ensures { λ r. ⌜ (r ≡ true → (0 ≡ besideOf n (now (s1 .entry))) × (0 ≡ besideOf n (now (s2 .entry)))
+        × (0 ≡ besideOf n (now (s3 .entry)))) ⌝ }
 {
     if !like(n, len, s1) {
         return false;

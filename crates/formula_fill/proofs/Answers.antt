@@ -1,14 +1,16 @@
 -- What each way out of the code answers is what the definition answers there.
-use mathlib.Core.Bool.{Bool, true, false, cond}
+use mathlib.Core.Bool.{cond}
 use mathlib.Core.List.{List}
 use mathlib.Core.Logic.{_≢_}
-use mathlib.Core.Path.{_≡_, refl, sym, ap, _∙_}
-use Prim.Native.Nat.{ℕ, _%_}
+use mathlib.Core.Path.{_≡_, refl, sym, ap, ap₂, _∙_}
+use Prim.Native.Nat.{ℕ, _%_, _<_}
 use native.Mathlib.Omega.{arith}
 use borrow.Author.Tests.{ne-eqb}
+use lib.Dec.{eqb}
 use lib.ListN.{length, getD}
 use Rattle.util.specs.Outcome.{Settled, settled}
-use Rattle.store.specs.Layout.{top, cap}
+use Rattle.store.specs.Layout.{topMost, top, cap}
+use Rattle.store.proofs.TopLayer.{top-is, top-high}
 use Rattle.walk.specs.Calls.{fits}
 use Rattle.walk.specs.Steps.{refusalOf}
 use Rattle.walk.specs.declared.Cursor.{Cursor}
@@ -20,64 +22,58 @@ use Rattle.formula_codes.specs.Check.{checkOf}
 use Rattle.formula_codes.specs.Tree.{four, nth}
 use Rattle.formula_codes.proofs.Accepted.{accepted}
 use Rattle.formula_word.specs.Machine.{machineWord}
-use Rattle.formula_ask.specs.Calls.{wordsOf}
+use Rattle.formula_ask.specs.Calls.{formulaWords}
 use Rattle.formula_walk.specs.Calls.{refusalIn}
 use Rattle.formula_walk.proofs.Answers.{refusal-cursor, none-refused, walked-words}
-use Rattle.formula_pair.specs.Pair.{pairWords, pairIn}
-use Rattle.formula_pair_codes.specs.Pairs.{Pair}
-use Rattle.formula_fill.specs.Calls.{fillIn, fillOf}
+use Rattle.formula_pair.specs.Pair.{pairWords, fillWords}
+use Rattle.formula_pair_codes.specs.Pairs.{Pair, namedWords}
+use Rattle.formula_fill.specs.Calls.{formulaFillIn, formulaFillOf}
 use Rattle.formula_fill.proofs.Pairs.{pair-words}
 
 module _ (a b c d cs : List ℕ) (k : Cursor) {n : ℕ} (n-is : n ≡ refusalIn (four a b c d) cs k) (m : ℕ) (out : List ℕ) where
   abbrev ss : List (List ℕ)
   ss = four a b c d
 
-  pub fill-refused : n ≢ 0 → {r : Batch} → r ≡ record { cursor = k; reads = 0; count = 0; stop = Refused n } → Settled batchPaper (fillOf ss cs k m out) r out
-  unfolding fillIn
+  pub fill-refused : n ≢ 0 → {r : Batch} → r ≡ record { cursor = k; reads = 0; count = 0; stop = Refused n } → Settled batchPaper (formulaFillOf ss cs k m out) r out
+  unfolding formulaFillIn
   fill-refused h is =
-      let w : fillIn ss cs k m (length out) ≡ stopped (Refused n) 0 k = rw (← n-is, ne-eqb n 0 h) in
+      let w : formulaFillIn ss cs k m (length out) ≡ stopped (Refused n) 0 k = rw (← n-is, ne-eqb n 0 h) in
       settled (ap (λ (x : Filled). filled x out) w ∙ ap (λ (x : Batch). record { numbers = batchPaper .numbers x; lent = out }) (sym is))
 
-  pub fill-runs : n ≡ 0 → {N : ℕ} → N ≡ cap a → {r : Batch} {x : List ℕ} → Settled batchPaper (filled (fillFrom (machineWord N ss cs) 3 (length out) m k) out) r x
-      → Settled batchPaper (fillOf ss cs k m out) r x
-  unfolding fillIn top
+  pub fill-runs : n ≡ 0 → {N : ℕ} → N ≡ cap a → {r : Batch} {x : List ℕ} → Settled batchPaper (filled (fillFrom (machineWord N ss cs) topMost (length out) m k) out) r x
+      → Settled batchPaper (formulaFillOf ss cs k m out) r x
+  unfolding formulaFillIn
   fill-runs h {N} N-is s =
       let z = none-refused a b c d cs k n-is h .0 in
-      let w : fillIn ss cs k m (length out) ≡ fillFrom (wordsOf ss cs) 3 (length out) m k = rw (← n-is, h) in
-      fill-answered out (fill-same (machineWord N ss cs) (wordsOf ss cs) 3 (λ j i l. walked-words a b c d cs z N-is j i (omega arith)) (length out) m k ∙ sym w) s
+      let w : formulaFillIn ss cs k m (length out) ≡ fillFrom (formulaWords ss cs) (top (cap a)) (length out) m k = rw (← n-is, h) in
+      fill-answered out (ap (λ (t : ℕ). fillFrom (machineWord N ss cs) t (length out) m k) (sym (top-is (cap a)))
+      ∙ fill-same (machineWord N ss cs) (formulaWords ss cs) (top (cap a)) (λ j i l. walked-words a b c d cs z N-is j i (omega arith)) (length out) m k ∙ sym w) s
 
 -- two stores and what joins them: the fill of a pair refuses what is left to refuse, a cursor
 module _ (a b c d cs : List ℕ) (k : Cursor) (z : checkOf (four a b c d) cs ≡ 0) (p : Pair cs) (m : ℕ) (out : List ℕ) where
   abbrev ps : List (List ℕ)
   ps = four a b c d
 
-  abbrev pair : Filled
-  pair = pairIn (getD cs 2 0) (nth ps (getD cs 0 0 % 4)) (nth ps (getD cs 1 0 % 4)) k m (length out)
+  abbrev pair : ℕ → Filled
+  pair N = fillWords (namedWords ps cs) N k m (length out)
 
-  judged : (x : Bool) → fits 3 k ≡ x → cond x 0 7 ≡ refusalIn ps cs k
-  unfolding refusalOf
-  judged x e = ap (λ (y : Bool). cond y 0 7) (sym e) ∙ refusal-cursor a b c d cs refl k z refl
-
-  pair-walks : fits 3 k ≡ true → pair ≡ fillIn ps cs k m (length out)
-  unfolding fillIn pairIn top
-  pair-walks y =
+  -- the two words that are joined are the formula's
+  named-words : (j i : ℕ) → j < topMost → namedWords ps cs j i ≡ formulaWords ps cs j i
+  named-words j i h =
       let e : getD cs 0 0 % 4 ≡ getD cs 0 0 = omega (arith, p .first) in
       let f : getD cs 1 0 % 4 ≡ getD cs 1 0 = omega (arith, p .second) in
-      let lw = pairWords (getD cs 2 0) (nth ps (getD cs 0 0)) (nth ps (getD cs 1 0)) in
-      let v : pair ≡ fillFrom lw 3 (length out) m k = rw (y, e, f) in
-      let w : fillIn ps cs k m (length out) ≡ fillFrom (wordsOf ps cs) 3 (length out) m k = rw (← judged true y) in
-      v ∙ fill-same lw (wordsOf ps cs) 3 (pair-words a b c d cs (accepted a b c d cs z) p) (length out) m k ∙ sym w
+      ap₂ (λ (x y : ℕ). pairWords (getD cs 2 0) (nth ps x) (nth ps y) j i) e f ∙ pair-words a b c d cs (accepted a b c d cs z) p j i h
 
-  pair-refuses : fits 3 k ≡ false → pair ≡ fillIn ps cs k m (length out)
-  unfolding fillIn pairIn
-  pair-refuses y =
-      let v : pair ≡ stopped (Refused 7) 0 k = rw y in
-      let w : fillIn ps cs k m (length out) ≡ stopped (Refused 7) 0 k = rw (← judged false y) in
-      v ∙ sym w
+  pair-fills : {N : ℕ} → N ≡ cap a → pair N ≡ formulaFillIn ps cs k m (length out)
+  unfolding formulaFillIn fillWords
+  pair-fills {N} N-is =
+      let no = refusalOf N (fits (top N) k) in
+      let e : no ≡ refusalIn ps cs k = refusal-cursor a b c d cs refl k z N-is refl in
+      let t : top N ≡ top (cap a) = ap top N-is in
+      let below : (j i : ℕ) → j < top (cap a) → namedWords ps cs j i ≡ formulaWords ps cs j i = λ j i h. named-words j i (omega (arith, h, top-high (cap a))) in
+      let f : fillFrom (namedWords ps cs) (top N) (length out) m k ≡ fillFrom (formulaWords ps cs) (top (cap a)) (length out) m k =
+      ap (λ (x : ℕ). fillFrom (namedWords ps cs) x (length out) m k) t ∙ fill-same (namedWords ps cs) (formulaWords ps cs) (top (cap a)) below (length out) m k in
+      ap₂ (λ (x : ℕ) (y : Filled). cond (eqb x 0) y (stopped (Refused x) 0 k)) e f
 
-  pub fill-joins : {r : Batch} {x : List ℕ} → Settled batchPaper (filled pair out) r x → Settled batchPaper (fillOf ps cs k m out) r x
-  fill-joins s = fill-answered out (go (fits 3 k) refl) s
-    where
-      go : (y : Bool) → fits 3 k ≡ y → pair ≡ fillIn ps cs k m (length out)
-      go true e = pair-walks e
-      go false e = pair-refuses e
+  pub fill-joins : {N : ℕ} → N ≡ cap a → {r : Batch} {x : List ℕ} → Settled batchPaper (filled (pair N) out) r x → Settled batchPaper (formulaFillOf ps cs k m out) r x
+  fill-joins N-is s = fill-answered out (pair-fills N-is) s

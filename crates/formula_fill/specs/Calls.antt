@@ -9,14 +9,14 @@ use Rattle.store.specs.Layout.{top}
 use Rattle.walk.specs.declared.Cursor.{Cursor}
 use Rattle.walk_fill.specs.Fill.{Filled, stopped, fillFrom, filled}
 use Rattle.walk_fill.specs.declared.Stop.the-variants.{Refused}
-use Rattle.formula_ask.specs.Calls.{capOf, wordsOf}
+use Rattle.formula_ask.specs.Calls.{capOf, formulaWords}
 use Rattle.formula_walk.specs.Calls.{refusalIn}
 
-unfoldable pub fillIn : List (List ℕ) → List ℕ → Cursor → ℕ → ℕ → Filled
-fillIn ss cs c b m =
+unfoldable pub formulaFillIn : List (List ℕ) → List ℕ → Cursor → ℕ → ℕ → Filled
+formulaFillIn ss cs c b m =
     let no = refusalIn ss cs c in
-    let f = fillFrom (wordsOf ss cs) (top (capOf ss)) m b c in
+    let f = fillFrom (formulaWords ss cs) (top (capOf ss)) m b c in
     cond (eqb no 0) f (stopped (Refused no) 0 c)
 
-abbrev pub fillOf : List (List ℕ) → List ℕ → Cursor → ℕ → List ℕ → Outcome (List ℕ)
-fillOf ss cs c b out = filled (fillIn ss cs c b (length out)) out
+abbrev pub formulaFillOf : List (List ℕ) → List ℕ → Cursor → ℕ → List ℕ → Outcome (List ℕ)
+formulaFillOf ss cs c b out = filled (formulaFillIn ss cs c b (length out)) out

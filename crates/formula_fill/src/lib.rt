@@ -1,12 +1,13 @@
 // Many members of a formula in one call: what that many calls of `formula_walk::next` do, with the tests made once.
 ghost use lib.ListN.{length};
 ghost use Rattle.util.specs.Outcome.{Settled};
+ghost use Rattle.store.specs.Layout.{topMost};
 ghost use Rattle.walk.specs.Calls.{Fine};
 ghost use Rattle.walk.specs.Steps.{Sinks};
 ghost use Rattle.walk_fill.specs.Fill.{fillFrom, batchPaper, filled};
 ghost use Rattle.formula_codes.specs.Tree.{four};
 ghost use Rattle.formula_word.specs.Machine.{machineWord};
-ghost use Rattle.formula_fill.specs.Calls.{fillOf};
+ghost use Rattle.formula_fill.specs.Calls.{formulaFillOf};
 use walk::Cursor;
 use walk::Sunk;
 use walk_fill::Batch;
@@ -24,7 +25,9 @@ fn sink(
     spent: u64,
     budget: u64,
 ) -> Sunk
-    ensures { λ r. ⌜ Sinks (machineWord n (four (now (s0 .entry)) (now (s1 .entry)) (now (s2 .entry)) (now (s3 .entry))) (now (codes .entry))) budget spent c r ⌝ }
+    ensures { λ r. ⌜ (let ss = four (now (s0 .entry)) (now (s1 .entry)) (now (s2 .entry)) (now (s3 .entry)) in
+        let lw = machineWord n ss (now (codes .entry)) in
+        Sinks lw topMost budget spent c r) ⌝ }
 {
     let masks = c.masks;
     if masks[0] != 0 {
@@ -48,8 +51,11 @@ fn fill_in(
     budget: u64,
     out: &mut [u32],
 ) -> Batch
-    requires { ⌜ Fine 3 (from .prefix) ⌝ }
-    ensures { λ r. ⌜ Settled batchPaper (filled (fillFrom (machineWord n (four (now (s0 .entry)) (now (s1 .entry)) (now (s2 .entry)) (now (s3 .entry))) (now (codes .entry))) 3 (length (now (out .entry))) budget from) (now (out .entry))) r (now (out .exit)) ⌝ }
+    requires { ⌜ Fine topMost (from .prefix) ⌝ }
+    ensures { λ r. ⌜ (let ss = four (now (s0 .entry)) (now (s1 .entry)) (now (s2 .entry)) (now (s3 .entry)) in
+        let lw = machineWord n ss (now (codes .entry)) in
+        let o = now (out .entry) in
+        Settled batchPaper (filled (fillFrom lw topMost (length o) budget from) o) r (now (out .exit))) ⌝ }
 {
     let mut c = from;
     let mut spent = 0u64;
@@ -61,16 +67,10 @@ fn fill_in(
         if c.masks[0] == 0 {
             return walk_fill::rest(c, spent, count);
         }
-        out[count] = c.place(0) as u32;
-        c = c.hand();
+        c = walk_fill::hand_out(c, out, count);
         count += 1;
     }
-    Batch {
-        cursor: c,
-        reads: spent,
-        count,
-        stop: Stop::Full,
-    }
+    walk_fill::made(c, spent, count, Stop::Full)
 }
 
 // As many members of a formula as `out` holds or the budget allows. A fill of a pair judges its cursor itself.
@@ -84,19 +84,20 @@ pub fn fill(
     budget: u64,
     out: &mut [u32],
 ) -> Batch
-    ensures { λ r. ⌜ Settled batchPaper (fillOf (four (now (s0 .entry)) (now (s1 .entry)) (now (s2 .entry)) (now (s3 .entry))) (now (codes .entry)) c budget (now (out .entry))) r (now (out .exit)) ⌝ }
+    ensures { λ r. ⌜ (let ss = four (now (s0 .entry)) (now (s1 .entry)) (now (s2 .entry)) (now (s3 .entry)) in
+        Settled batchPaper (formulaFillOf ss (now (codes .entry)) c budget (now (out .entry))) r (now (out .exit))) ⌝ }
 {
     let no = formula_codes::check(codes, s0, s1, s2, s3);
     if no != 0 {
         return walk_fill::made(c, 0, 0, Stop::Refused(no));
     }
+    let n = store::named(s0);
     if formula_pair_codes::is_pair(codes) {
-        return formula_pair_codes::fill(c, codes, s0, s1, s2, s3, budget, out);
+        return formula_pair_codes::fill(c, codes, n, s0, s1, s2, s3, budget, out);
     }
-    let bad = c.refusal(1);
+    let bad = c.refusal(n);
     if bad != 0 {
         return walk_fill::made(c, 0, 0, Stop::Refused(bad));
     }
-    let n = store::get(s0, 0) as usize;
     fill_in(c, codes, n, s0, s1, s2, s3, budget, out)
 }

@@ -1,31 +1,41 @@
 -- What the calls over a formula tell of its members.
 use mathlib.Core.Bool.{Bool, true, false, _&&_}
-use mathlib.Core.List.{List, []}
+use mathlib.Core.List.{List, [], _∷_, _++_, List·Memᴰ, List·Memᴰ·not-nil}
+use mathlib.Core.List.List·Memᴰ.{List·Memᴰ·head}
 use mathlib.Core.Logic.{_≢_, _↔_}
-use mathlib.Core.Path.{_≡_, refl, sym, ap, _∙_}
-use Prim.Native.Nat.{ℕ, _/_, _%_, _<_}
+use mathlib.Core.Path.{_≡_, refl, sym, ap, ap₂, _∙_, subst}
+use Prim.Native.Nat.{ℕ, _/_, _%_, _<_, min}
 use native.Mathlib.Decide.{ℕ-discrete}
 use native.Mathlib.Omega.{arith}
-use borrow.Author.Tests.{lt-ltb, ltb-true, eq-eqb, eqb-true}
+use borrow.Author.Tests.{lt-ltb, ltb-true, eq-eqb, ne-eqb, eqb-true}
 use lib.Dec.{ltb, eqb}
 use lib.ListN.{length, getD}
 use Rattle.util.specs.Outcome.{Outcome}
 use Rattle.util.specs.Word.{bit}
+use Rattle.util.proofs.Bits.{bit-of-zero}
 use Rattle.util.proofs.Same.{both}
 use Rattle.store.specs.Answer.{says}
 use Rattle.store.specs.Layout.{top, cap}
-use Rattle.store.specs.Word.{Sound, Words64}
-use Rattle.store.proofs.Words.{word-lt}
+use Rattle.store.specs.Word.{anc, Sound, Words64}
+use Rattle.store.proofs.TopLayer.{top-one}
+use Rattle.store.proofs.Words.{word-lt, place-in, anc-in}
+use Rattle.walk_laws.specs.Under.{allIds}
 use Rattle.walk_laws.specs.Walks.{onAt}
-use Rattle.walk_laws.proofs.Members.{under-empty}
+use Rattle.walk_laws.proofs.Members.{summary-over, under-empty, under-none}
 use Rattle.formula_codes.specs.Check.{checkOf}
-use Rattle.formula_codes.specs.Codes.{treeOf}
-use Rattle.formula_codes.specs.Tree.{four, nth}
+use Rattle.formula_codes.specs.Codes.{codeKind, treeOf}
+use Rattle.formula_codes.specs.Tree.{Tree, four, nth, treeWord}
 use Rattle.formula_codes.proofs.Accepted.{Beside, accepted}
-use Rattle.formula_ask.specs.Calls.{wordsOf, containsOf, isEmptyOf}
-use Rattle.formula_laws.specs.Members.{Among, held, membersOf}
-use Rattle.formula_laws.specs.Sides.{Sounds}
-use Rattle.formula_laws.proofs.Sets.{sound-none, tree-held, held-among, ids-members}
+use Rattle.formula_ask.specs.Calls.{formulaWords, formulaContainsOf, formulaIsEmptyOf}
+use Rattle.formula_laws.specs.Members.{Among, heldBy, formulaMembers}
+use Rattle.formula_laws.specs.Sides.{Sounds, UnionCodes}
+use Rattle.formula_laws.proofs.Sets.{sound-none, tree-held, held-among, members-are, tree-ids}
+use Rattle.formula_laws.proofs.Shapes.{tree-two, tree-union}
+use Rattle.formula_laws.proofs.Trees.{tree-bounded, both-bits, tree-clear, union-full}
+
+no-members : (l : List ℕ) → ((i : ℕ) → List·Memᴰ i l → ⊥) → l ≡ []
+no-members [] n = refl
+no-members (a ∷ l) n = absurd (n a (List·Memᴰ·head refl))
 
 said-yes : (b : Bool) → _≡_ {A = Outcome (Unit {0})} (says b tt) (says true tt) → b ≡ true
 said-yes true e = refl
@@ -44,8 +54,8 @@ module _ (a b c d cs : List ℕ) (ok : checkOf (four a b c d) cs ≡ 0) (words :
       go s z (no n) = z n
 
   -- CONTAINS says yes exactly for the members, whether the stores are sound or not.
-  pub contains-among : (i : ℕ) → (containsOf ss cs i ≡ says true tt) ↔ ((i < cap a) × Among ss (treeOf cs) i)
-  unfolding containsOf onAt
+  pub contains-among : (i : ℕ) → (formulaContainsOf ss cs i ≡ says true tt) ↔ ((i < cap a) × Among ss (treeOf cs) i)
+  unfolding formulaContainsOf onAt
   contains-among i = (
     λ e.
         let t = both (ltb i N) (eqb w 1) (said-yes (ltb i N && eqb w 1) (sym is ∙ e)) in
@@ -58,22 +68,74 @@ module _ (a b c d cs : List ℕ) (ok : checkOf (four a b c d) cs ≡ 0) (words :
       N = cap a
 
       w : ℕ
-      w = bit (wordsOf ss cs 0 (i / 64)) (i % 64)
+      w = bit (formulaWords ss cs 0 (i / 64)) (i % 64)
 
       fit : (x : ℕ) → Beside N (nth ss x)
       fit = accepted a b c d cs ok .beside
 
-      is : containsOf ss cs i ≡ says (ltb i N && eqb w 1) tt
+      is : formulaContainsOf ss cs i ≡ says (ltb i N && eqb w 1) tt
       is = rw ok
 
-      bit-held : i < N → w ≡ held N ss (treeOf cs) i
+      bit-held : i < N → w ≡ heldBy N ss (treeOf cs) i
       bit-held h = tree-held N ss (λ x. word-lt N (nth ss x) (words x)) (treeOf cs) i h
 
-  -- IS_EMPTY says yes only where there is no member, over sound stores.
-  pub empty-none : Sounds (cap a) ss → isEmptyOf ss cs ≡ says true tt → membersOf (cap a) ss (treeOf cs) ≡ []
-  unfolding isEmptyOf
-  empty-none z e =
-      let w = wordsOf ss cs (top (cap a)) 0 in
-      let is : isEmptyOf ss cs ≡ says (eqb w 0) tt = rw ok in
-      let none = eqb-true w 0 (said-yes (eqb w 0) (sym is ∙ e)) in
-      sym (ids-members (cap a) ss (accepted a b c d cs ok .first .most) z (treeOf cs)) ∙ under-empty (wordsOf ss cs) (top (cap a)) 0 none
+  -- "A formula's `is_empty` reads only its layer-3 word, as the crate's."
+  top-asked : formulaIsEmptyOf ss cs ≡ says (eqb (formulaWords ss cs (top (cap a)) 0) 0) tt
+  unfolding formulaIsEmptyOf
+  top-asked = rw ok
+
+  module _ (z : Sounds (cap a) ss) where
+    handed-out : allIds (formulaWords ss cs) (top (cap a)) ≡ formulaMembers (cap a) ss (treeOf cs)
+    handed-out = tree-ids (cap a) ss (accepted a b c d cs ok .first .most) z (treeOf cs)
+
+    -- IS_EMPTY says yes only where there is no member, over sound stores.
+    pub empty-none : formulaIsEmptyOf ss cs ≡ says true tt → (i : ℕ) → i < cap a → Among ss (treeOf cs) i → ⊥
+    empty-none e i h m =
+        let none = eqb-true _ 0 (said-yes (eqb (formulaWords ss cs (top (cap a)) 0) 0) (sym top-asked ∙ e)) in
+        let nil = sym handed-out ∙ under-empty (formulaWords ss cs) (top (cap a)) 0 none in
+        List·Memᴰ·not-nil (subst (List·Memᴰ i) nil (members-are (cap a) ss (accepted a b c d cs ok .beside) (treeOf cs) i .1 (h, m)))
+
+    -- ON ONE STORE OR A UNION OF STORES it says yes exactly there.
+    pub union-empty : UnionCodes cs → (formulaIsEmptyOf ss cs ≡ says true tt) ↔ ((i : ℕ) → i < cap a → Among ss (treeOf cs) i → ⊥)
+    union-empty u = (empty-none, from)
+      where
+        from : ((i : ℕ) → i < cap a → Among ss (treeOf cs) i → ⊥) → formulaIsEmptyOf ss cs ≡ says true tt
+        from none =
+            let nil = no-members (formulaMembers (cap a) ss (treeOf cs)) (λ i m. let t = members-are (cap a) ss (accepted a b c d cs ok .beside) (treeOf cs) i .0 m in none i (t .0) (t .1)) in
+            let full = union-full (cap a) ss (z .sound) (treeOf cs) (tree-union ss cs (accepted a b c d cs ok .formula) u) in
+            let bounded = tree-bounded (cap a) ss (λ x. word-lt (cap a) (nth ss x) (words x)) (treeOf cs) in
+            let w = under-none (formulaWords ss cs) (top (cap a)) bounded full (top (cap a)) (omega arith) 0 (handed-out ∙ nil) in
+            top-asked ∙ ap (λ (b : Bool). says b tt) (eq-eqb _ 0 w)
+
+-- ON AN INTERSECTION, of any two formulas, it says no wherever a member of one side and a member of the other stand under one place of the
+-- top layer: so it may say no where there is no member (Apart.antt). An exclusive or of a store with itself is another such formula, and so
+-- is the inverse of a store that holds every id.
+module _ (a b c d f g : List ℕ) (z : Sounds (cap a) (four a b c d)) (left : checkOf (four a b c d) f ≡ 0) (right : checkOf (four a b c d) g ≡ 0) where
+  abbrev qs : List (List ℕ)
+  qs = four a b c d
+
+  abbrev fg : List ℕ
+  fg = f ++ (g ++ 16 ∷ [])
+
+  abbrev t : ℕ
+  t = top (cap a)
+
+  -- the bit over a member is on in the top layer
+  over-member : (cs : List ℕ) → checkOf qs cs ≡ 0 → (i : ℕ) → i < cap a → Among qs (treeOf cs) i → onAt (formulaWords qs cs) t (anc i t) ≡ 1
+  over-member cs ok i h m =
+      summary-over (formulaWords qs cs) t (tree-clear (cap a) qs (z .sound) (treeOf cs)) i
+      (tree-held (cap a) qs (λ x. word-lt (cap a) (nth qs x) (z .words x)) (treeOf cs) i h ∙ held-among (cap a) qs (accepted a b c d cs ok .beside) (treeOf cs) i h .1 m)
+      t (omega arith)
+
+  pub and-not-empty : checkOf qs fg ≡ 0 → (i j : ℕ) → i < cap a → j < cap a → Among qs (treeOf f) i → Among qs (treeOf g) j → anc i t ≡ anc j t
+      → formulaIsEmptyOf qs fg ≡ says false tt
+  unfolding onAt codeKind
+  and-not-empty ok i j h l m n e =
+      let x = over-member f left i h m in
+      let y = ap (onAt (formulaWords qs g) t) e ∙ over-member g right j l n in
+      let first = accepted a b c d f left .first in
+      let q : anc i t / 64 ≡ 0 = omega (arith, place-in (cap a) t (anc i t) (anc-in (cap a) i t h), top-one (cap a) (first .some) (first .most)) in
+      let tree = tree-two qs f g 16 (accepted a b c d f left .formula) (accepted a b c d g right .formula) in
+      let o = ap (λ (u : Tree). onAt (treeWord (cap a) qs u) t (anc i t)) tree ∙ both-bits (cap a) qs (treeOf f) (treeOf g) t (anc i t) ∙ ap₂ min x y in
+      let some : formulaWords qs fg t 0 ≢ 0 = λ w. omega (arith, sym o ∙ ap (λ (u : ℕ). bit u (anc i t % 64)) (ap (formulaWords qs fg t) q ∙ w) ∙ bit-of-zero (anc i t % 64)) in
+      top-asked a b c d fg ok (z .words) ∙ ap (λ (v : Bool). says v tt) (ne-eqb _ 0 some)

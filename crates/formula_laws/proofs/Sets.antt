@@ -12,14 +12,16 @@ use Rattle.util.proofs.Bits.{bit-lt, bit-of-zero, bit-and, bit-or, bit-xor, bit
 use Rattle.util.proofs.Places.{places-same, places-in, in-places, places-rising}
 use Rattle.store.specs.Layout.{top, maxCap, room, layerLen, cap}
 use Rattle.store.specs.Word.{word, on, Member, Sound}
+use Rattle.store.proofs.TopLayer.{top-covers}
 use Rattle.store.proofs.Words.{on-lt, word-in, word-out, word-lt}
+use Rattle.ops_word.specs.Op.{opWord}
 use Rattle.walk_laws.specs.Under.{allIds}
 use Rattle.walk_laws.specs.Walks.{onAt}
 use Rattle.walk_laws.proofs.Members.{ids-below}
-use Rattle.formula_codes.specs.Tree.{Tree, existing, xorIn, notIn, value, nth, treeWord}
+use Rattle.formula_codes.specs.Tree.{Tree, existing, xorIn, joined, notIn, value, nth, treeWord}
 use Rattle.formula_codes.specs.Tree.Tree.{store, both, either, oneOf, inverse, every}
 use Rattle.formula_codes.proofs.Accepted.{Beside}
-use Rattle.formula_laws.specs.Members.{Among, held, membersOf}
+use Rattle.formula_laws.specs.Members.{Among, heldBy, formulaMembers}
 use Rattle.formula_laws.specs.Sides.{Sounds}
 use Rattle.formula_laws.proofs.Cuts.{cut-in}
 use Rattle.formula_laws.proofs.Trees.{tree-bounded, tree-clear, tree-past}
@@ -30,8 +32,8 @@ module _ (N : ℕ) (ss : List (List ℕ)) (bounded : (c k i : ℕ) → word N (n
   abbrev lw : Tree → ℕ → ℕ → ℕ
   lw = treeWord N ss
 
-  pub tree-held : (e : Tree) (i : ℕ) → i < N → onAt (treeWord N ss e) 0 i ≡ held N ss e i
-  unfolding treeWord value xorIn notIn onAt on held room
+  pub tree-held : (e : Tree) (i : ℕ) → i < N → onAt (treeWord N ss e) 0 i ≡ heldBy N ss e i
+  unfolding treeWord value joined xorIn opWord notIn onAt on heldBy room
   tree-held (store c) i h = refl
   tree-held (both a b) i h = bit-and (lw a 0 (i / 64)) (lw b 0 (i / 64)) (i % 64) ∙ ap₂ min (tree-held a i h) (tree-held b i h)
   tree-held (either a b) i h = bit-or (lw a 0 (i / 64)) (lw b 0 (i / 64)) (i % 64) ∙ ap₂ max (tree-held a i h) (tree-held b i h)
@@ -58,8 +60,10 @@ on-none N s e k p = ap (λ (w : ℕ). bit w (p % 64)) (word-none N s e k (p / 64
 
 pub sound-none : (N : ℕ) (s : List ℕ) → length s ≡ 0 → Sound N s
 sound-none N s e = record {
-  inside = λ k p h q. absurd (omega (arith, q, on-none N s e k p));
-  exact = λ k q h. (λ o. absurd (omega (arith, o, on-none N s e (suc k) q)), λ n. absurd (n (word-none N s e k q)));
+  layers = record {
+    inside = λ k p h q. absurd (omega (arith, q, on-none N s e k p));
+    exact = λ k q h. (λ o. absurd (omega (arith, o, on-none N s e (suc k) q)), λ n. absurd (n (word-none N s e k q)));
+  };
 }
 
 -- a bit that is on exactly if something holds, and the bits made of two such
@@ -102,12 +106,12 @@ not-on : {A : Type 0} {x : ℕ} → (x ≡ 1) ↔ A → x < 2 → (1 - x ≡ 1) 
 not-on {A} {x} p l = (λ e a. omega (arith, e, p .1 a), λ n. let m : x ≢ 1 = λ e. n (p .0 e) in omega (arith, m))
 
 module _ (N : ℕ) (ss : List (List ℕ)) (fit : (c : ℕ) → Beside N (nth ss c)) where
-  pub held-lt : (e : Tree) (i : ℕ) → held N ss e i < 2
-  unfolding held
+  pub held-lt : (e : Tree) (i : ℕ) → heldBy N ss e i < 2
+  unfolding heldBy
   held-lt (store c) i = on-lt N (nth ss c) 0 i
   held-lt (both a b) i = omega (arith, held-lt a i)
   held-lt (either a b) i = omega (arith, held-lt a i, held-lt b i)
-  held-lt (oneOf a b) i = go (held N ss a i) (held N ss b i) (held-lt a i) (held-lt b i)
+  held-lt (oneOf a b) i = go (heldBy N ss a i) (heldBy N ss b i) (held-lt a i) (held-lt b i)
     where
       go : (x y : ℕ) → x < 2 → y < 2 → differ x y < 2
       go zero y p q = q
@@ -133,8 +137,8 @@ module _ (N : ℕ) (ss : List (List ℕ)) (fit : (c : ℕ) → Beside N (nth ss 
           )
 
   -- AN ID below N is held exactly if ordinary set algebra says so.
-  pub held-among : (e : Tree) (i : ℕ) → i < N → (held N ss e i ≡ 1) ↔ Among ss e i
-  unfolding held
+  pub held-among : (e : Tree) (i : ℕ) → i < N → (heldBy N ss e i ≡ 1) ↔ Among ss e i
+  unfolding heldBy
   held-among (store c) i h = on-member c i h
   held-among (both a b) i h = both-on (held-among a i h) (held-among b i h) (held-lt a i) (held-lt b i)
   held-among (either a b) i h = either-on (held-among a i h) (held-among b i h) (held-lt a i) (held-lt b i)
@@ -143,18 +147,17 @@ module _ (N : ℕ) (ss : List (List ℕ)) (fit : (c : ℕ) → Beside N (nth ss 
   held-among every i h = (λ q. tt, λ m. refl)
 
   -- THE MEMBERS: those ids, each once, rising.
-  pub members-are : (e : Tree) (i : ℕ) → List·Memᴰ i (membersOf N ss e) ↔ ((i < N) × Among ss e i)
+  pub members-are : (e : Tree) (i : ℕ) → List·Memᴰ i (formulaMembers N ss e) ↔ ((i < N) × Among ss e i)
   members-are e i = (
-    λ m. let t = places-in (held N ss e) 0 N i m in let h : i < N = omega (arith, t .1) in (h, held-among e i h .0 (omega (arith, t .2, held-lt e i))),
-    λ t. in-places (held N ss e) 0 N i (omega arith) (omega (arith, t .0)) (λ z. omega (arith, z, held-among e i (t .0) .1 (t .1))),
+    λ m. let t = places-in (heldBy N ss e) 0 N i m in let h : i < N = omega (arith, t .1) in (h, held-among e i h .0 (omega (arith, t .2, held-lt e i))),
+    λ t. in-places (heldBy N ss e) 0 N i (omega arith) (omega (arith, t .0)) (λ z. omega (arith, z, held-among e i (t .0) .1 (t .1))),
   )
 
-pub members-rise : (N : ℕ) (ss : List (List ℕ)) (e : Tree) → Rising 0 (membersOf N ss e)
-members-rise N ss e = places-rising (held N ss e) 0 N
+pub tree-rises : (N : ℕ) (ss : List (List ℕ)) (e : Tree) → Rising 0 (formulaMembers N ss e)
+tree-rises N ss e = places-rising (heldBy N ss e) 0 N
 
 -- WHAT A WALK HANDS OUT by the definition is the members, over sound stores.
-pub ids-members : (N : ℕ) (ss : List (List ℕ)) → N ≤ maxCap → Sounds N ss → (e : Tree) → allIds (treeWord N ss e) (top N) ≡ membersOf N ss e
-unfolding top
-ids-members N ss most z e =
-    ids-below (treeWord N ss e) (top N) N (tree-clear N ss (z .sound) e) most (tree-past N ss (z .sound) e)
-    ∙ places-same (onAt (treeWord N ss e) 0) (held N ss e) 0 N (λ i l u. tree-held N ss (λ c. word-lt N (nth ss c) (z .words c)) e i (omega arith))
+pub tree-ids : (N : ℕ) (ss : List (List ℕ)) → N ≤ maxCap → Sounds N ss → (e : Tree) → allIds (treeWord N ss e) (top N) ≡ formulaMembers N ss e
+tree-ids N ss most z e =
+    ids-below (treeWord N ss e) (top N) N (tree-clear N ss (z .sound) e) (top-covers N most) (tree-past N ss (z .sound) e)
+    ∙ places-same (onAt (treeWord N ss e) 0) (heldBy N ss e) 0 N (λ i l u. tree-held N ss (λ c. word-lt N (nth ss c) (z .words c)) e i (omega arith))

@@ -8,8 +8,8 @@ use Prim.Native.Nat.{ℕ, suc, _-_, _≤_, _<_}
 use native.Mathlib.Omega.{arith}
 use lib.Dec.{ltb}
 use lib.ListN.{length, getD}
-use Rattle.formula_codes.specs.Codes.{Kind, kindOf, joinTwo, turnOne, grow, trees, firstOf, treeOf, takes, takesIn, left, isFormula}
-use Rattle.formula_codes.specs.Codes.Kind.{isStore, isBoth, isEither, isOneOf, isInverse, isEvery, isUnknown}
+use Rattle.formula_codes.specs.Codes.{CodeKind, codeKind, joinTwo, turnOne, grow, trees, firstTree, treeOf, takes, takesIn, left, isFormula}
+use Rattle.formula_codes.specs.Codes.CodeKind.{isStore, isBoth, isEither, isOneOf, isInverse, isEvery, isUnknown}
 use Rattle.formula_codes.specs.Tree.{Tree}
 use Rattle.formula_codes.specs.Tree.Tree.{both, either, oneOf, inverse}
 use Rattle.formula_codes.proofs.Accepted.{formula-one}
@@ -32,7 +32,7 @@ one : (f : Tree → Tree) (st r : List Tree) → 1 ≤ length st → Frames (tur
 one f [] r h = absurd (omega arith)
 one f (a ∷ st) r h = (refl, omega arith)
 
-grow-frame : (κ : Kind) (lent : Bool) (c : ℕ) (st r : List Tree) → length st ≤ 8 → takes κ lent ≤ length st → Frames (grow κ c) st r (takes κ lent)
+grow-frame : (κ : CodeKind) (lent : Bool) (c : ℕ) (st r : List Tree) → length st ≤ 8 → takes κ lent ≤ length st → Frames (grow κ c) st r (takes κ lent)
 grow-frame isStore true c st r m h = (refl, omega arith)
 grow-frame isStore false c st r m h = absurd (omega arith)
 grow-frame isBoth lent c st r m h = two both st r h
@@ -50,17 +50,17 @@ unfolding trees left takesIn
 trees-frame ls [] st r m n = (refl, refl)
 trees-frame ls (c ∷ cs) st r m n =
     let f = code-fits ls c cs (length st) (left ls (c ∷ cs) (length st)) n refl in
-    let g = grow-frame (kindOf c) (ltb 0 (getD ls c 0)) c st r m (f .enough) in
-    let e : left ls cs (length (grow (kindOf c) c st)) ≡ left ls (c ∷ cs) (length st) = ap (left ls cs) (g .1) ∙ f .onward in
-    let i = trees-frame ls cs (grow (kindOf c) c st) r (omega (arith, g .1, f .few)) (λ z. n (sym e ∙ z)) in
+    let g = grow-frame (codeKind c) (ltb 0 (getD ls c 0)) c st r m (f .enough) in
+    let e : left ls cs (length (grow (codeKind c) c st)) ≡ left ls (c ∷ cs) (length st) = ap (left ls cs) (g .1) ∙ f .onward in
+    let i = trees-frame ls cs (grow (codeKind c) c st) r (omega (arith, g .1, f .few)) (λ z. n (sym e ∙ z)) in
     (ap (trees cs) (g .0) ∙ i .0, i .1 ∙ e)
 
-trees-append : (xs ys : List ℕ) (st : List Tree) → trees (xs ++ ys) st ≡ trees ys (trees xs st)
+pub trees-append : (xs ys : List ℕ) (st : List Tree) → trees (xs ++ ys) st ≡ trees ys (trees xs st)
 unfolding trees
 trees-append [] ys st = refl
-trees-append (x ∷ xs) ys st = trees-append xs ys (grow (kindOf x) x st)
+trees-append (x ∷ xs) ys st = trees-append xs ys (grow (codeKind x) x st)
 
-one-tree : (st : List Tree) → length st ≡ 1 → st ≡ firstOf st ∷ []
+one-tree : (st : List Tree) → length st ≡ 1 → st ≡ firstTree st ∷ []
 one-tree [] h = absurd (omega arith)
 one-tree (e ∷ []) h = refl
 one-tree (e ∷ f ∷ st) h = absurd (omega arith)
@@ -73,15 +73,20 @@ leaves-one ss cs r e =
     let f = trees-frame (map length ss) cs [] r (omega arith) (λ z. omega (arith, l, z)) in
     f .0 ∙ ap (λ (x : List Tree). x ++ r) (one-tree (trees cs []) (f .1 ∙ l))
 
--- THE INTERSECTION of two formulas by its codes
-pub tree-and : (ss : List (List ℕ)) (f g : List ℕ) → isFormula ss f ≡ true → isFormula ss g ≡ true → treeOf (f ++ (g ++ 16 ∷ [])) ≡ both (treeOf f) (treeOf g)
-unfolding treeOf trees kindOf
-tree-and ss f g p q =
-    ap firstOf
-    (trees-append f (g ++ 16 ∷ []) []
-    ∙ ap (trees (g ++ 16 ∷ [])) (leaves-one ss f [] p)
-    ∙ trees-append g (16 ∷ []) (treeOf f ∷ [])
-    ∙ ap (trees (16 ∷ [])) (leaves-one ss g (treeOf f ∷ []) q))
+-- TWO FORMULAS AND A CODE, and one and a code: the code's tree over theirs
+pub tree-two : (ss : List (List ℕ)) (f g : List ℕ) (c : ℕ) → isFormula ss f ≡ true → isFormula ss g ≡ true
+    → treeOf (f ++ (g ++ c ∷ [])) ≡ firstTree (grow (codeKind c) c (treeOf g ∷ treeOf f ∷ []))
+unfolding treeOf trees
+tree-two ss f g c p q =
+    ap firstTree
+    (trees-append f (g ++ c ∷ []) []
+    ∙ ap (trees (g ++ c ∷ [])) (leaves-one ss f [] p)
+    ∙ trees-append g (c ∷ []) (treeOf f ∷ [])
+    ∙ ap (trees (c ∷ [])) (leaves-one ss g (treeOf f ∷ []) q))
+
+pub tree-one : (ss : List (List ℕ)) (f : List ℕ) (c : ℕ) → isFormula ss f ≡ true → treeOf (f ++ c ∷ []) ≡ firstTree (grow (codeKind c) c (treeOf f ∷ []))
+unfolding treeOf trees
+tree-one ss f c p = ap firstTree (trees-append f (c ∷ []) [] ∙ ap (trees (c ∷ [])) (leaves-one ss f [] p))
 
 -- ---- a union by its codes
 
@@ -94,15 +99,15 @@ join-union [] u = tt
 join-union (b ∷ []) u = u
 join-union (b ∷ a ∷ st) u = ((u .1 .0, u .0), u .1 .1)
 
-grow-union : (c : ℕ) (st : List Tree) → (c < 4) ⊎ (c ≡ 17) → Unions st → Unions (grow (kindOf c) c st)
-unfolding kindOf
-grow-union c st (inl h) u = subst (λ (κ : Kind). Unions (grow κ c st)) (sym (kind-store c h)) (tt, u)
-grow-union c st (inr e) u = subst (λ (x : ℕ). Unions (grow (kindOf x) c st)) (sym e) (join-union st u)
+grow-union : (c : ℕ) (st : List Tree) → (c < 4) ⊎ (c ≡ 17) → Unions st → Unions (grow (codeKind c) c st)
+unfolding codeKind
+grow-union c st (inl h) u = subst (λ (κ : CodeKind). Unions (grow κ c st)) (sym (kind-store c h)) (tt, u)
+grow-union c st (inr e) u = subst (λ (x : ℕ). Unions (grow (codeKind x) c st)) (sym e) (join-union st u)
 
 trees-union : (cs : List ℕ) (st : List Tree) → UnionCodes cs → Unions st → Unions (trees cs st)
 unfolding trees
 trees-union [] st o u = u
-trees-union (c ∷ cs) st o u = trees-union cs (grow (kindOf c) c st) (o .1) (grow-union c st (o .0) u)
+trees-union (c ∷ cs) st o u = trees-union cs (grow (codeKind c) c st) (o .1) (grow-union c st (o .0) u)
 
 pub tree-union : (ss : List (List ℕ)) (cs : List ℕ) → isFormula ss cs ≡ true → UnionCodes cs → Union (treeOf cs)
 tree-union ss cs e o = subst Unions (leaves-one ss cs [] e) (trees-union cs [] o tt) .0

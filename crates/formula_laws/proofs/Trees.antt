@@ -11,9 +11,10 @@ use Rattle.util.specs.Word.{bit, flip}
 use Rattle.util.proofs.Bits.{bit-lt, bit-and, bit-or, bit-xor}
 use Rattle.store.specs.Layout.{top, room}
 use Rattle.store.specs.Word.{word, on, Sound}
-use Rattle.walk_laws.specs.Walks.{Bounded, onAt, Clear, Full, Within}
+use Rattle.ops_word.specs.Op.{opWord}
+use Rattle.walk_laws.specs.Walks.{Bounded, onAt, Clear, Full, InsideOf}
 use Rattle.walk_laws.proofs.Store.{sound-clear, sound-full, sound-past}
-use Rattle.formula_codes.specs.Tree.{Tree, existing, xorIn, notIn, value, nth, treeWord}
+use Rattle.formula_codes.specs.Tree.{Tree, existing, xorIn, joined, notIn, value, nth, treeWord}
 use Rattle.formula_codes.specs.Tree.Tree.{store, both, either, oneOf, inverse, every}
 use Rattle.formula_laws.specs.Sides.{Union}
 use Rattle.formula_laws.proofs.Cuts.{cut-lt, cut-past, cut-under}
@@ -24,7 +25,7 @@ module _ (N : ℕ) (ss : List (List ℕ)) where
 
   -- EVERY LAYER WORD of a formula over slices of words is a word.
   pub tree-bounded : ((c k i : ℕ) → word N (nth ss c) k i < 2 ^ 64) → (e : Tree) → Bounded (lw e)
-  unfolding treeWord value xorIn notIn
+  unfolding treeWord value joined xorIn opWord notIn
   tree-bounded w (store c) k i = w c k i
   tree-bounded w (both a b) k i = omega (arith, and-le-l (lw a k i) (lw b k i), tree-bounded w a k i)
   tree-bounded w (either a b) k i = or-lt 64 (lw a k i) (lw b k i) (tree-bounded w a k i) (tree-bounded w b k i)
@@ -34,19 +35,23 @@ module _ (N : ℕ) (ss : List (List ℕ)) where
   tree-bounded w (inverse a) (suc k) i = cut-lt (room N (suc k)) i
   tree-bounded w every k i = cut-lt (room N k) i
 
-  -- AN INTERSECTION has no bit that a side lacks, in any layer, whatever the slices are.
-  pub both-left : (f g : Tree) (t : ℕ) → Within (lw (both f g)) (lw f) t
-  unfolding treeWord value
+  -- AN INTERSECTION has the bits that both sides have, and so none that a side lacks, in any layer, whatever the slices are.
+  pub both-bits : (f g : Tree) (k p : ℕ) → onAt (lw (both f g)) k p ≡ min (onAt (lw f) k p) (onAt (lw g) k p)
+  unfolding treeWord value joined opWord onAt
+  both-bits f g k p = bit-and (lw f k (p / 64)) (lw g k (p / 64)) (p % 64)
+
+  pub both-left : (f g : Tree) (t : ℕ) → InsideOf (lw (both f g)) (lw f) t
+  unfolding treeWord value joined opWord
   both-left f g t k p i h l = omega (arith, bit-and (lw f k p) (lw g k p) i)
 
-  pub both-right : (f g : Tree) (t : ℕ) → Within (lw (both f g)) (lw g) t
-  unfolding treeWord value
+  pub both-right : (f g : Tree) (t : ℕ) → InsideOf (lw (both f g)) (lw g) t
+  unfolding treeWord value joined opWord
   both-right f g t k p i h l = omega (arith, bit-and (lw f k p) (lw g k p) i)
 
 -- ---- over sound stores
 
-xor-none : (k a b : ℕ) → a ≡ 0 → b ≡ 0 → xorIn k a b ≡ 0
-unfolding xorIn
+xor-none : (k a b : ℕ) → a ≡ 0 → b ≡ 0 → joined 18 k a b ≡ 0
+unfolding joined xorIn opWord
 xor-none zero a b e f = ap₂ bitXor e f ∙ xor-zero-l 0
 xor-none (suc k) a b e f = ap₂ bitOr e f ∙ or-zero-l 0
 
@@ -58,7 +63,7 @@ not-none (suc k) cut a e = e
 module _ (N : ℕ) (ss : List (List ℕ)) (z : (c : ℕ) → Sound N (nth ss c)) where
   -- THE COVERING LAW: a summary bit that is off stands over a word that is 0, and so over no member.
   pub tree-clear : (e : Tree) → Clear (treeWord N ss e) (top N)
-  unfolding treeWord value xorIn notIn onAt
+  unfolding treeWord value joined xorIn opWord notIn onAt bit
   tree-clear (store c) k p h e = sound-clear N (nth ss c) (z c) k p h e
   tree-clear (both a b) k p h e =
       go (ℕ-discrete (bit (lw N ss a (suc k) (p / 64)) (p % 64)) 0)
@@ -78,7 +83,7 @@ module _ (N : ℕ) (ss : List (List ℕ)) (z : (c : ℕ) → Sound N (nth ss c))
 
   -- no bit of layer 0 at or past N
   pub tree-past : (e : Tree) (i : ℕ) → N ≤ i → onAt (treeWord N ss e) 0 i ≡ 0
-  unfolding treeWord value xorIn notIn onAt on room
+  unfolding treeWord value joined xorIn opWord notIn onAt on room bit
   tree-past (store c) i h = sound-past N (nth ss c) (z c) i h
   tree-past (both a b) i h = bit-and (lw N ss a 0 (i / 64)) (lw N ss b 0 (i / 64)) (i % 64) ∙ omega (arith, tree-past a i h)
   tree-past (either a b) i h = bit-or (lw N ss a 0 (i / 64)) (lw N ss b 0 (i / 64)) (i % 64) ∙ omega (arith, tree-past a i h, tree-past b i h)
@@ -89,7 +94,7 @@ module _ (N : ℕ) (ss : List (List ℕ)) (z : (c : ℕ) → Sound N (nth ss c))
 
   -- A UNION: a summary bit that is on stands over a word that is not 0.
   pub union-full : (e : Tree) → Union e → Full (treeWord N ss e) (top N)
-  unfolding treeWord value onAt
+  unfolding treeWord value joined opWord onAt bit
   union-full (store c) u k p h e = sound-full N (nth ss c) (z c) k p h e
   union-full (either a b) u k p h e =
       go (ℕ-discrete (bit (lw N ss a (suc k) (p / 64)) (p % 64)) 1)

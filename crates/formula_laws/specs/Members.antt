@@ -18,14 +18,14 @@ Among ss (inverse a) i = Among ss a i → ⊥
 Among ss every i = Unit {0}
 
 -- the same as a number, 1 or 0, over stores of capacity N
-unfoldable pub held : ℕ → List (List ℕ) → Tree → ℕ → ℕ
-held N ss (store c) i = on N (nth ss c) 0 i
-held N ss (both a b) i = min (held N ss a i) (held N ss b i)
-held N ss (either a b) i = max (held N ss a i) (held N ss b i)
-held N ss (oneOf a b) i = differ (held N ss a i) (held N ss b i)
-held N ss (inverse a) i = 1 - held N ss a i
-held N ss every i = 1
+unfoldable pub heldBy : ℕ → List (List ℕ) → Tree → ℕ → ℕ
+heldBy N ss (store c) i = on N (nth ss c) 0 i
+heldBy N ss (both a b) i = min (heldBy N ss a i) (heldBy N ss b i)
+heldBy N ss (either a b) i = max (heldBy N ss a i) (heldBy N ss b i)
+heldBy N ss (oneOf a b) i = differ (heldBy N ss a i) (heldBy N ss b i)
+heldBy N ss (inverse a) i = 1 - heldBy N ss a i
+heldBy N ss every i = 1
 
 -- the members, ascending
-abbrev pub membersOf : ℕ → List (List ℕ) → Tree → List ℕ
-membersOf N ss e = places (held N ss e) 0 N
+abbrev pub formulaMembers : ℕ → List (List ℕ) → Tree → List ℕ
+formulaMembers N ss e = places (heldBy N ss e) 0 N

@@ -2,11 +2,13 @@
 use mathlib.Core.Bool.{cond}
 use mathlib.Core.List.{List}
 use Prim.Native.Nat.{ℕ}
+use lib.Dec.{eqb}
 use lib.ListN.{length, getD}
 use Rattle.util.specs.Outcome.{Outcome}
+use Rattle.store.specs.Layout.{top}
 use Rattle.set_layers.specs.Calls.{layerPart}
 use Rattle.walk.specs.Calls.{fits}
-use Rattle.walk.specs.Steps.{parts}
+use Rattle.walk.specs.Steps.{refusalOf, parts}
 use Rattle.walk.specs.declared.Cursor.{Cursor}
 use Rattle.walk_fill.specs.Fill.{Filled, stopped, fillFrom, filled}
 use Rattle.walk_fill.specs.declared.Stop.the-variants.{Refused}
@@ -20,11 +22,11 @@ joinedParts code ls ms k i = joined code k (parts ls k i) (parts ms k i)
 abbrev pub pairWords : ℕ → List ℕ → List ℕ → ℕ → ℕ → ℕ
 pairWords code a b k i = joined code k (getD (layerPart a k) i 0) (getD (layerPart b k) i 0)
 
--- refusal 7 alone
-unfoldable pub pairIn : ℕ → List ℕ → List ℕ → Cursor → ℕ → ℕ → Filled
-pairIn code a b c n m =
-    let f = fillFrom (pairWords code a b) 3 m n c in
-    cond (fits 3 c) f (stopped (Refused 7) 0 c)
+-- a fill over any layer words, of capacity N: refusals 2, where N is 0, and 7
+unfoldable pub fillWords : (ℕ → ℕ → ℕ) → ℕ → Cursor → ℕ → ℕ → Filled
+fillWords lw N c n m =
+    let no = refusalOf N (fits (top N) c) in
+    cond (eqb no 0) (fillFrom lw (top N) m n c) (stopped (Refused no) 0 c)
 
-abbrev pub pairOf : ℕ → List ℕ → List ℕ → Cursor → ℕ → List ℕ → Outcome (List ℕ)
-pairOf code a b c n out = filled (pairIn code a b c n (length out)) out
+abbrev pub filledWords : (ℕ → ℕ → ℕ) → ℕ → Cursor → ℕ → List ℕ → Outcome (List ℕ)
+filledWords lw N c n out = filled (fillWords lw N c n (length out)) out

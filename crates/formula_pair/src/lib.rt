@@ -4,11 +4,12 @@ ghost use mathlib.Core.Path.{_≡_};
 ghost use Prim.Native.Nat.{ℕ, _+_, _<_};
 ghost use lib.ListN.{length, getD};
 ghost use Rattle.util.specs.Outcome.{Settled};
+ghost use Rattle.store.specs.Layout.{topMost};
 ghost use Rattle.walk.specs.Calls.{Fine};
 ghost use Rattle.walk.specs.Steps.{Lowers, Sinks};
 ghost use Rattle.walk_fill.specs.Fill.{fillFrom, batchPaper, filled};
 ghost use Rattle.formula_codes.specs.Tree.{joined};
-ghost use Rattle.formula_pair.specs.Pair.{joinedParts, pairOf};
+ghost use Rattle.formula_pair.specs.Pair.{joinedParts, pairWords, filledWords};
 ghost use Rattle.formula_pair.specs.Steps.{Stepped};
 use walk::Cursor;
 use walk::Sunk;
@@ -17,8 +18,8 @@ use walk_fill::Stop;
 
 // The words below the lowest bit of the layer above layer j are read and joined.
 fn read(c: Cursor, code: u8, a: &[u64], b: &[u64], j: usize) -> Cursor
-    requires { ⌜ (j < 3) × (0 < getD (c .masks) (j + 1) 0) ⌝ }
-    ensures { λ r. ⌜ Lowers (λ (k i : ℕ). joined code k (getD (now (a .entry)) i 0) (getD (now (b .entry)) i 0)) j c r ⌝ }
+    requires { ⌜ (j < topMost) × (0 < getD (c .masks) (j + 1) 0) ⌝ }
+    ensures { λ r. ⌜ Lowers (λ (k i : ℕ). joined code k (getD (now (a .entry)) i 0) (getD (now (b .entry)) i 0)) topMost j c r ⌝ }
 {
     let q = c.place(j + 1);
     let w = formula_codes::joined(code, j, store::get(a, q), store::get(b, q));
@@ -44,7 +45,9 @@ fn down(
     b1: &[u64],
     b0: &[u64],
 ) -> Sunk
-    ensures { λ r. ⌜ Stepped (joinedParts code (now (a0 .entry) ∷ now (a1 .entry) ∷ now (a2 .entry) ∷ []) (now (b0 .entry) ∷ now (b1 .entry) ∷ now (b2 .entry) ∷ [])) c r ⌝ }
+    ensures { λ r. ⌜ (let ls = now (a0 .entry) ∷ now (a1 .entry) ∷ now (a2 .entry) ∷ [] in
+        let ms = now (b0 .entry) ∷ now (b1 .entry) ∷ now (b2 .entry) ∷ [] in
+        Stepped (joinedParts code ls ms) topMost c r) ⌝ }
 {
     let masks = c.masks;
     if masks[0] != 0 {
@@ -56,7 +59,7 @@ fn down(
     if masks[2] != 0 {
         return sunk(read(c, code, a1, b1, 1), 1);
     }
-    if masks[3] != 0 {
+    if masks[store::TOP] != 0 {
         return sunk(read(c, code, a2, b2, 2), 1);
     }
     sunk(c, 0)
@@ -75,7 +78,9 @@ fn sink(
     spent: u64,
     budget: u64,
 ) -> Sunk
-    ensures { λ r. ⌜ Sinks (joinedParts code (now (a0 .entry) ∷ now (a1 .entry) ∷ now (a2 .entry) ∷ []) (now (b0 .entry) ∷ now (b1 .entry) ∷ now (b2 .entry) ∷ [])) budget spent from r ⌝ }
+    ensures { λ r. ⌜ (let ls = now (a0 .entry) ∷ now (a1 .entry) ∷ now (a2 .entry) ∷ [] in
+        let ms = now (b0 .entry) ∷ now (b1 .entry) ∷ now (b2 .entry) ∷ [] in
+        Sinks (joinedParts code ls ms) topMost budget spent from r) ⌝ }
 {
     let masks = from.masks;
     if masks[0] != 0 {
@@ -110,8 +115,11 @@ fn fill_in(
     budget: u64,
     out: &mut [u32],
 ) -> Batch
-    requires { ⌜ Fine 3 (from .prefix) ⌝ }
-    ensures { λ r. ⌜ Settled batchPaper (filled (fillFrom (joinedParts code (now (a0 .entry) ∷ now (a1 .entry) ∷ now (a2 .entry) ∷ []) (now (b0 .entry) ∷ now (b1 .entry) ∷ now (b2 .entry) ∷ [])) 3 (length (now (out .entry))) budget from) (now (out .entry))) r (now (out .exit)) ⌝ }
+    requires { ⌜ Fine topMost (from .prefix) ⌝ }
+    ensures { λ r. ⌜ (let ls = now (a0 .entry) ∷ now (a1 .entry) ∷ now (a2 .entry) ∷ [] in
+        let ms = now (b0 .entry) ∷ now (b1 .entry) ∷ now (b2 .entry) ∷ [] in
+        let o = now (out .entry) in
+        Settled batchPaper (filled (fillFrom (joinedParts code ls ms) topMost (length o) budget from) o) r (now (out .exit))) ⌝ }
 {
     let mut c = from;
     let mut spent = 0u64;
@@ -123,18 +131,26 @@ fn fill_in(
         if c.masks[0] == 0 {
             return walk_fill::rest(c, spent, count);
         }
-        out[count] = c.place(0) as u32;
-        c = c.hand();
+        c = walk_fill::hand_out(c, out, count);
         count += 1;
     }
     walk_fill::made(c, spent, count, Stop::Full)
 }
 
-// As many members of two joined stores as `out` holds or the budget allows. A slice that is no store has no members.
-pub fn fill(c: Cursor, code: u8, a: &[u64], b: &[u64], budget: u64, out: &mut [u32]) -> Batch
-    ensures { λ r. ⌜ Settled batchPaper (pairOf code (now (a .entry)) (now (b .entry)) c budget (now (out .entry))) r (now (out .exit)) ⌝ }
+// As many members of two stores of capacity n, joined, as `out` holds or the budget allows. A slice that is no store has no members.
+pub fn fill(
+    c: Cursor,
+    code: u8,
+    n: usize,
+    a: &[u64],
+    b: &[u64],
+    budget: u64,
+    out: &mut [u32],
+) -> Batch
+    ensures { λ r. ⌜ (let lw = pairWords code (now (a .entry)) (now (b .entry)) in
+        Settled batchPaper (filledWords lw n c budget (now (out .entry))) r (now (out .exit))) ⌝ }
 {
-    let no = c.refusal(1);
+    let no = c.refusal(n);
     if no != 0 {
         return walk_fill::made(c, 0, 0, Stop::Refused(no));
     }

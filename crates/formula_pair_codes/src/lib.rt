@@ -6,8 +6,8 @@ ghost use lib.ListN.{getD};
 ghost use Rattle.util.specs.Outcome.{Settled};
 ghost use Rattle.walk_fill.specs.Fill.{batchPaper};
 ghost use Rattle.formula_codes.specs.Tree.{four, nth};
-ghost use Rattle.formula_pair.specs.Pair.{pairOf};
-ghost use Rattle.formula_pair_codes.specs.Pairs.{isPair};
+ghost use Rattle.formula_pair.specs.Pair.{pairWords, filledWords};
+ghost use Rattle.formula_pair_codes.specs.Pairs.{isPair, namedWords};
 use walk::Cursor;
 use walk_fill::Batch;
 
@@ -36,6 +36,7 @@ fn fill_with(
     last: u8,
     x: &[u64],
     second: u8,
+    n: usize,
     s0: &[u64],
     s1: &[u64],
     s2: &[u64],
@@ -43,13 +44,15 @@ fn fill_with(
     budget: u64,
     out: &mut [u32],
 ) -> Batch
-    ensures { λ r. ⌜ Settled batchPaper (pairOf last (now (x .entry)) (nth (four (now (s0 .entry)) (now (s1 .entry)) (now (s2 .entry)) (now (s3 .entry))) (second % 4)) c budget (now (out .entry))) r (now (out .exit)) ⌝ }
+    ensures { λ r. ⌜ (let y = nth (four (now (s0 .entry)) (now (s1 .entry)) (now (s2 .entry)) (now (s3 .entry))) (second % 4) in
+        let lw = pairWords last (now (x .entry)) y in
+        Settled batchPaper (filledWords lw n c budget (now (out .entry))) r (now (out .exit))) ⌝ }
 {
     match second % 4 {
-        0 => formula_pair::fill(c, last, x, s0, budget, out),
-        1 => formula_pair::fill(c, last, x, s1, budget, out),
-        2 => formula_pair::fill(c, last, x, s2, budget, out),
-        _ => formula_pair::fill(c, last, x, s3, budget, out),
+        0 => formula_pair::fill(c, last, n, x, s0, budget, out),
+        1 => formula_pair::fill(c, last, n, x, s1, budget, out),
+        2 => formula_pair::fill(c, last, n, x, s2, budget, out),
+        _ => formula_pair::fill(c, last, n, x, s3, budget, out),
     }
 }
 
@@ -60,11 +63,12 @@ fn code_at(codes: &[u8], i: usize) -> u8
     if i < codes.len() { codes[i] } else { 0 }
 }
 
-// As many members of the two stores that the first two codes name, joined by the third, as `out` holds or the budget allows. Stores count
-// modulo 4.
+// As many members of the two stores of capacity n that the first two codes name, joined by the third, as `out` holds or the budget allows.
+// Stores count modulo 4.
 pub fn fill(
     c: Cursor,
     codes: &[u8],
+    n: usize,
     s0: &[u64],
     s1: &[u64],
     s2: &[u64],
@@ -72,14 +76,16 @@ pub fn fill(
     budget: u64,
     out: &mut [u32],
 ) -> Batch
-    ensures { λ r. ⌜ Settled batchPaper (pairOf (getD (now (codes .entry)) 2 0) (nth (four (now (s0 .entry)) (now (s1 .entry)) (now (s2 .entry)) (now (s3 .entry))) (getD (now (codes .entry)) 0 0 % 4)) (nth (four (now (s0 .entry)) (now (s1 .entry)) (now (s2 .entry)) (now (s3 .entry))) (getD (now (codes .entry)) 1 0 % 4)) c budget (now (out .entry))) r (now (out .exit)) ⌝ }
+    ensures { λ r. ⌜ (let ss = four (now (s0 .entry)) (now (s1 .entry)) (now (s2 .entry)) (now (s3 .entry)) in
+        let lw = namedWords ss (now (codes .entry)) in
+        Settled batchPaper (filledWords lw n c budget (now (out .entry))) r (now (out .exit))) ⌝ }
 {
     let last = code_at(codes, 2);
     let second = code_at(codes, 1);
     match code_at(codes, 0) % 4 {
-        0 => fill_with(c, last, s0, second, s0, s1, s2, s3, budget, out),
-        1 => fill_with(c, last, s1, second, s0, s1, s2, s3, budget, out),
-        2 => fill_with(c, last, s2, second, s0, s1, s2, s3, budget, out),
-        _ => fill_with(c, last, s3, second, s0, s1, s2, s3, budget, out),
+        0 => fill_with(c, last, s0, second, n, s0, s1, s2, s3, budget, out),
+        1 => fill_with(c, last, s1, second, n, s0, s1, s2, s3, budget, out),
+        2 => fill_with(c, last, s2, second, n, s0, s1, s2, s3, budget, out),
+        _ => fill_with(c, last, s3, second, n, s0, s1, s2, s3, budget, out),
     }
 }

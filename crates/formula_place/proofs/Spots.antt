@@ -6,23 +6,23 @@ use native.Mathlib.Omega.{arith}
 use borrow.Author.Tests.{lt-ltb, le-ltb}
 use lib.Pow.{pow-pos}
 use Rattle.util.proofs.Bits.{shl-one}
-use Rattle.store.specs.Layout.{top, folded, layerEnd, endOf}
-use Rattle.store.proofs.Ends.{end0}
-use Rattle.store.proofs.Geometry.{end-step, ends-fall}
+use Rattle.store.specs.Layout.{folded, layerEnd, endOf}
+use Rattle.store.proofs.Ends.{length-small}
+use Rattle.store.proofs.Geometry.{end-falls, within}
 use Rattle.formula_codes.specs.Tree.{existing}
 use Rattle.formula_place.specs.Spots.{wordsIn, placesIn, placeOf}
 
 -- ---- the layers
 
-module _ (N k : ℕ) (h : k < 4) where
+module _ (N k : ℕ) where
   -- a layer starts before it ends, and ends soon enough for any sum of such numbers
   pub starts-first : endOf N (k + 1) ≤ endOf N k
-  unfolding endOf top
-  starts-first = omega (arith, end-step (folded N) k (omega arith), ap (layerEnd (folded N)) (add-one k))
+  unfolding endOf
+  starts-first = omega (arith, end-falls (folded N) k, ap (layerEnd (folded N)) (add-one k))
 
   pub ends-soon : endOf N k ≤ 1000000
-  unfolding endOf top
-  ends-soon = omega (arith, ends-fall (folded N) 0 k (omega arith) (omega arith), end0 (folded N) (omega arith) (omega arith))
+  unfolding endOf
+  ends-soon = omega (arith, within (folded N) k, length-small {N = folded N} (omega arith) (omega arith))
 
   pub words-are : {a e : ℕ} → e ≡ endOf N k → a ≡ endOf N (k + 1) → e - a ≡ wordsIn N k
   unfolding wordsIn

@@ -2,6 +2,7 @@
 ghost use mathlib.Core.Path.{_≡_};
 ghost use Prim.Native.Nat.{_+_, _-_, _<_};
 ghost use lib.ListN.{getD};
+ghost use Rattle.store.specs.Layout.{topMost};
 ghost use Rattle.walk.specs.Steps.{Lowers, Sinks};
 ghost use Rattle.walk.specs.Walk.{lowLayer, handled};
 ghost use Rattle.formula_codes.specs.Codes.{cutsIn};
@@ -18,37 +19,31 @@ struct Spot {
     at: usize,
 }
 
+enum Want {
+    Word(Spot),
+    Nothing,
+}
+
 // The word of layer k that has to be read, in stores of capacity n.
-fn below(c: Cursor, k: usize, n: usize) -> Spot
-    requires { ⌜ (k < 3) × (lowLayer 3 c ≡ k + 1) × (0 < getD (c .masks) (k + 1) 0) ⌝ }
-    ensures { λ r. ⌜ Spotted n c r ⌝ }
+fn below(c: Cursor, k: usize, n: usize) -> Want
+    requires { ⌜ (k < topMost) × (lowLayer topMost c ≡ k + 1) × (0 < getD (c .masks) (k + 1) 0) ⌝ }
+    ensures { λ r. ⌜ Wanted n c r ⌝ }
 {
     let q = c.place(k + 1);
-    Spot {
+    Want::Word(Spot {
         layer: k,
         index: q,
         at: formula_place::spot(n, k, q),
-    }
-}
-
-// No word: there are three layers below the top.
-fn nothing() -> Spot
-    ensures { λ r. ⌜ r ≡ record { layer = 3; index = 0; at = 0 } ⌝ }
-{
-    Spot {
-        layer: 3,
-        index: 0,
-        at: 0,
-    }
+    })
 }
 
 // The word that has to be read, if there is one. A literal layer number keeps the cursor in registers, and no mask is asked for twice.
-fn wanted(c: Cursor, n: usize) -> Spot
+fn wanted(c: Cursor, n: usize) -> Want
     ensures { λ r. ⌜ Wanted n c r ⌝ }
 {
     let masks = c.masks;
     if masks[0] != 0 {
-        return nothing();
+        return Want::Nothing;
     }
     if masks[1] != 0 {
         return below(c, 0, n);
@@ -56,16 +51,16 @@ fn wanted(c: Cursor, n: usize) -> Spot
     if masks[2] != 0 {
         return below(c, 1, n);
     }
-    if masks[3] != 0 {
+    if masks[store::TOP] != 0 {
         return below(c, 2, n);
     }
-    nothing()
+    Want::Nothing
 }
 
 // The word is taken into the cursor, in the same way.
 fn lower(c: Cursor, j: usize, w: u64) -> Cursor
-    requires { ⌜ j < 3 ⌝ }
-    ensures { λ r. ⌜ r ≡ handled j w c ⌝ }
+    requires { ⌜ j < topMost ⌝ }
+    ensures { λ r. ⌜ r ≡ handled topMost j w c ⌝ }
 {
     if j == 0 {
         return c.handle_level(0, w);
@@ -89,7 +84,8 @@ fn read(
     s3: &[u64],
 ) -> Cursor
     requires { ⌜ (Spotted n c p) × (cuts ≡ cutsIn (now codes)) ⌝ }
-    ensures { λ r. ⌜ Lowers (machineWord n (four (now (s0 .entry)) (now (s1 .entry)) (now (s2 .entry)) (now (s3 .entry))) (now (codes .entry))) (lowLayer 3 c - 1) c r ⌝ }
+    ensures { λ r. ⌜ (let ss = four (now (s0 .entry)) (now (s1 .entry)) (now (s2 .entry)) (now (s3 .entry)) in
+        Lowers (machineWord n ss (now (codes .entry))) topMost (lowLayer topMost c - 1) c r) ⌝ }
 {
     let x = formula_place::cut(cuts, n, p.layer, p.index);
     let w = formula_word::word_at(codes, p.layer, x, p.at, s0, s1, s2, s3);
@@ -108,16 +104,16 @@ pub fn sink(
     spent: u64,
     budget: u64,
 ) -> Sunk
-    ensures { λ r. ⌜ Sinks (machineWord n (four (now (s0 .entry)) (now (s1 .entry)) (now (s2 .entry)) (now (s3 .entry))) (now (codes .entry))) budget spent from r ⌝ }
+    ensures { λ r. ⌜ (let ss = four (now (s0 .entry)) (now (s1 .entry)) (now (s2 .entry)) (now (s3 .entry)) in
+        Sinks (machineWord n ss (now (codes .entry))) topMost budget spent from r) ⌝ }
 {
     let cuts = formula_codes::cuts(codes);
     let mut c = from;
     let mut reads = spent;
     while reads < budget {
-        let p = wanted(c, n);
-        if p.layer == 3 {
+        let Want::Word(p) = wanted(c, n) else {
             break;
-        }
+        };
         c = read(c, p, codes, cuts, n, s0, s1, s2, s3);
         reads += 1;
     }

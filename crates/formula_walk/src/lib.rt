@@ -1,12 +1,13 @@
 // The walk over a formula: what `walk` does over one store, with a formula's word in the place of a store's. A formula word counts one read.
 ghost use mathlib.Core.Path.{_≡_};
 ghost use Rattle.util.specs.Outcome.{Settled};
+ghost use Rattle.store.specs.Layout.{topMost};
 ghost use Rattle.walk.specs.Calls.{stepPaper, refused, Fine};
 ghost use Rattle.walk.specs.Walk.{startAt, next};
 ghost use Rattle.walk.specs.declared.Next.the-variants.{Paused};
 ghost use Rattle.formula_codes.specs.Tree.{four};
 ghost use Rattle.formula_word.specs.Machine.{machineWord};
-ghost use Rattle.formula_walk.specs.Calls.{refusalIn, startOf, nextOf};
+ghost use Rattle.formula_walk.specs.Calls.{refusalIn, formulaStartOf, formulaNextOf};
 use walk::Cursor;
 use walk::Next;
 use walk::Step;
@@ -19,7 +20,7 @@ pub fn refusal(c: Cursor, codes: &[u8], s0: &[u64], s1: &[u64], s2: &[u64], s3: 
     if no != 0 {
         return no;
     }
-    c.refusal(1)
+    c.refusal(store::named(s0))
 }
 
 // A refused step hands its cursor back.
@@ -35,13 +36,10 @@ fn refused(c: Cursor, no: u32) -> Step
 
 // A walk that stands below a top word, which was read.
 fn begun(top: u64) -> Step
-    ensures { λ r. ⌜ r ≡ record { cursor = startAt 3 top; reads = 1; answer = Paused } ⌝ }
+    ensures { λ r. ⌜ r ≡ record { cursor = startAt topMost top; reads = 1; answer = Paused } ⌝ }
 {
     Step {
-        cursor: Cursor {
-            masks: [0, 0, 0, top],
-            prefix: [0; 3],
-        },
+        cursor: walk::above(top),
         reads: 1,
         answer: Next::Paused,
     }
@@ -58,8 +56,9 @@ fn run(
     s3: &[u64],
     budget: u64,
 ) -> Step
-    requires { ⌜ Fine 3 (c .prefix) ⌝ }
-    ensures { λ r. ⌜ r ≡ next (machineWord n (four (now (s0 .entry)) (now (s1 .entry)) (now (s2 .entry)) (now (s3 .entry))) (now (codes .entry))) 3 budget c ⌝ }
+    requires { ⌜ Fine topMost (c .prefix) ⌝ }
+    ensures { λ r. ⌜ (let ss = four (now (s0 .entry)) (now (s1 .entry)) (now (s2 .entry)) (now (s3 .entry)) in
+        r ≡ next (machineWord n ss (now (codes .entry))) topMost budget c) ⌝ }
 {
     let d = formula_sink::sink(c, codes, n, s0, s1, s2, s3, 0, budget);
     let k = d.cursor;
@@ -68,14 +67,15 @@ fn run(
 
 // A walk's start: the top word of the formula is read. What the given cursor holds does not matter.
 pub fn start(c: Cursor, codes: &[u8], s0: &[u64], s1: &[u64], s2: &[u64], s3: &[u64]) -> Step
-    ensures { λ r. ⌜ Settled stepPaper (startOf (four (now (s0 .entry)) (now (s1 .entry)) (now (s2 .entry)) (now (s3 .entry))) (now (codes .entry)) c) r tt ⌝ }
+    ensures { λ r. ⌜ (let ss = four (now (s0 .entry)) (now (s1 .entry)) (now (s2 .entry)) (now (s3 .entry)) in
+        Settled stepPaper (formulaStartOf ss (now (codes .entry)) c) r tt) ⌝ }
 {
     let no = formula_codes::check(codes, s0, s1, s2, s3);
     if no != 0 {
         return refused(c, no);
     }
-    let n = store::get(s0, 0) as usize;
-    begun(formula_word::word(codes, n, 3, 0, s0, s1, s2, s3))
+    let n = store::named(s0);
+    begun(formula_word::word(codes, n, store::top(n), 0, s0, s1, s2, s3))
 }
 
 // The next member of a formula, at a budget of word reads.
@@ -88,12 +88,13 @@ pub fn next(
     s3: &[u64],
     budget: u64,
 ) -> Step
-    ensures { λ r. ⌜ Settled stepPaper (nextOf (four (now (s0 .entry)) (now (s1 .entry)) (now (s2 .entry)) (now (s3 .entry))) (now (codes .entry)) c budget) r tt ⌝ }
+    ensures { λ r. ⌜ (let ss = four (now (s0 .entry)) (now (s1 .entry)) (now (s2 .entry)) (now (s3 .entry)) in
+        Settled stepPaper (formulaNextOf ss (now (codes .entry)) c budget) r tt) ⌝ }
 {
     let no = refusal(c, codes, s0, s1, s2, s3);
     if no != 0 {
         return refused(c, no);
     }
-    let n = store::get(s0, 0) as usize;
+    let n = store::named(s0);
     run(c, codes, n, s0, s1, s2, s3, budget)
 }

@@ -10,73 +10,73 @@ use lib.Bits.{bitAnd}
 use lib.ListN.{length, getD, set, drop, drop-of-length-le, length-set}
 use lib.Seq.{drop-cons, getD-set-same, getD-set-other}
 use Rattle.util.specs.Word.{flip}
-use Rattle.formula_codes.specs.Codes.{kindOf}
+use Rattle.formula_codes.specs.Codes.{codeKind}
 use Rattle.formula_codes.specs.Tree.{joined, notIn}
 use Rattle.formula_codes.proofs.Turns.{kind-store, kind-unknown}
-use Rattle.formula_word.specs.Machine.{Stack, made, moves, stepped, evaluated, begun}
-use Rattle.formula_word.specs.Steps.{JoinsTwo, Joins, Turned, Going}
+use Rattle.formula_word.specs.Machine.{Stack, madeOf, moves, stepped, evaluated, begun}
+use Rattle.formula_word.specs.Steps.{JoinsTwo, Joins, Turned, Evaluating}
 use Rattle.formula_word.specs.declared.Turn.{Turn}
 
 -- ---- what a code makes
 
 module _ (c w k cut a b : ℕ) where
-  pub made-store : c < 4 → w ≡ made (kindOf c) w k cut a b
-  unfolding made
+  pub made-store : c < 4 → w ≡ madeOf (codeKind c) w k cut a b
+  unfolding madeOf
   made-store h = sym (rw (kind-store c h))
 
   -- a code that joins two looks at nothing else
-  pub made-joined : {r : ℕ} → 16 ≤ c → c < 19 → r ≡ joined c k a b → r ≡ made (kindOf c) w k cut a b
-  unfolding made kindOf joined
+  pub made-joined : {r : ℕ} → 16 ≤ c → c < 19 → r ≡ joined c k a b → r ≡ madeOf (codeKind c) w k cut a b
+  unfolding madeOf codeKind joined
   made-joined h l r = r ∙ go (ℕ-discrete c 16) (ℕ-discrete c 17)
     where
-      go : Dec (c ≡ 16) → Dec (c ≡ 17) → joined c k a b ≡ made (kindOf c) w k cut a b
+      go : Dec (c ≡ 16) → Dec (c ≡ 17) → joined c k a b ≡ madeOf (codeKind c) w k cut a b
       go (yes e) d = rw e
       go (no n) (yes e) = rw e
       go (no n) (no o) = let e : c ≡ 18 = omega arith in rw e
 
-  pub made-all : c ≡ 20 → cut ≡ made (kindOf c) w k cut a b
-  unfolding made kindOf
+  pub made-all : c ≡ 20 → cut ≡ madeOf (codeKind c) w k cut a b
+  unfolding madeOf codeKind
   made-all e = sym (rw e)
 
-  pub made-not : c ≡ 19 → k ≡ 0 → bitAnd cut (flip b) ≡ made (kindOf c) w k cut a b
-  unfolding made kindOf notIn
+  pub made-not : c ≡ 19 → k ≡ 0 → bitAnd cut (flip b) ≡ madeOf (codeKind c) w k cut a b
+  unfolding madeOf codeKind notIn
   made-not e z = sym (rw (e, z))
 
-  pub made-last : 4 ≤ c → (c < 16) ⊎ (19 ≤ c) → c ≢ 19 → c ≢ 20 → b ≡ made (kindOf c) w k cut a b
-  unfolding made
+  pub made-last : 4 ≤ c → (c < 16) ⊎ (19 ≤ c) → c ≢ 19 → c ≢ 20 → b ≡ madeOf (codeKind c) w k cut a b
+  unfolding madeOf
   made-last h o n19 n20 = sym (rw (kind-unknown c h o n19 n20))
 
 -- not above layer 0
-pub made-not-above : (c w k cut a b : ℕ) → c ≡ 19 → k ≢ 0 → cut ≡ made (kindOf c) w k cut a b
-unfolding made kindOf notIn
+pub made-not-above : (c w k cut a b : ℕ) → c ≡ 19 → k ≢ 0 → cut ≡ madeOf (codeKind c) w k cut a b
+unfolding madeOf codeKind notIn
 made-not-above c w zero cut a b e n = absurd (n refl)
 made-not-above c w (suc k) cut a b e n = sym (rw e)
 
 -- ---- where the place goes
 
 module _ (c : ℕ) where
-  pub moves-on : c < 4 → (1 ≡ moves (kindOf c)) × (1 ≤ 7)
+  pub moves-on : c < 4 → (1 ≡ moves (codeKind c)) × (1 ≤ 7)
   unfolding moves
   moves-on h = (sym (rw (kind-store c h)), omega arith)
 
-  pub moves-all : c ≡ 20 → (1 ≡ moves (kindOf c)) × (1 ≤ 7)
-  unfolding moves kindOf
+  pub moves-all : c ≡ 20 → (1 ≡ moves (codeKind c)) × (1 ≤ 7)
+  unfolding moves codeKind
   moves-all e = (sym (rw e), omega arith)
 
-  pub moves-back : 16 ≤ c → c < 19 → (7 ≡ moves (kindOf c)) × (7 ≤ 7)
-  unfolding moves kindOf
+  pub moves-back : 16 ≤ c → c < 19 → (7 ≡ moves (codeKind c)) × (7 ≤ 7)
+  unfolding moves codeKind
   moves-back h l = (go (ℕ-discrete c 16) (ℕ-discrete c 17), omega arith)
     where
-      go : Dec (c ≡ 16) → Dec (c ≡ 17) → 7 ≡ moves (kindOf c)
+      go : Dec (c ≡ 16) → Dec (c ≡ 17) → 7 ≡ moves (codeKind c)
       go (yes e) d = sym (rw e)
       go (no a) (yes e) = sym (rw e)
       go (no a) (no b) = let e : c ≡ 18 = omega arith in sym (rw e)
 
-  pub moves-not : 4 ≤ c → (c < 16) ⊎ (19 ≤ c) → c ≢ 20 → (0 ≡ moves (kindOf c)) × (0 ≤ 7)
-  unfolding moves kindOf
+  pub moves-not : 4 ≤ c → (c < 16) ⊎ (19 ≤ c) → c ≢ 20 → (0 ≡ moves (codeKind c)) × (0 ≤ 7)
+  unfolding moves codeKind
   moves-not h o n20 = (go (ℕ-discrete c 19), omega arith)
     where
-      go : Dec (c ≡ 19) → 0 ≡ moves (kindOf c)
+      go : Dec (c ≡ 19) → 0 ≡ moves (codeKind c)
       go (yes e) = sym (rw e)
       go (no n19) = sym (rw (kind-unknown c h o n19 n20))
 
@@ -89,8 +89,8 @@ module _ (k cut : ℕ) (ws cs v : List ℕ) (d b j : ℕ) (h : j < length cs) wh
   unfolding evaluated
   one-code = ap (λ (l : List ℕ). evaluated k cut ws l (record { words = v; place = d; last = b })) (sym (drop-cons cs j 0 h))
 
-  pub turned-one : (m r : ℕ) → m ≡ moves (kindOf (getD cs j 0))
-      → r ≡ made (kindOf (getD cs j 0)) (getD ws (getD cs j 0) 0) k cut (getD (set v d b) ((d + 7) % 8) 0) b
+  pub turned-one : (m r : ℕ) → m ≡ moves (codeKind (getD cs j 0))
+      → r ≡ madeOf (codeKind (getD cs j 0)) (getD ws (getD cs j 0) 0) k cut (getD (set v d b) ((d + 7) % 8) 0) b
       → Turned k cut ws cs j v d b (set v d b) (record { last = r; place = (d + m) % 8; next = j + 1 })
   unfolding stepped
   turned-one m r em er = record {
@@ -106,7 +106,7 @@ module _ (k cut : ℕ) (ws cs v : List ℕ) (d b j : ℕ) (h : j < length cs) wh
 -- a store's code
 store-step : (k cut : ℕ) (ws v : List ℕ) (c d b : ℕ) → c < 4
     → stepped k cut ws c (record { words = v; place = d; last = b }) ≡ record { words = set v d b; place = (d + 1) % 8; last = getD ws c 0 }
-unfolding stepped made moves
+unfolding stepped madeOf moves
 store-step k cut ws v c d b h = rw (kind-store c h)
 
 -- a code that joins the values x and y, which was put last
@@ -114,7 +114,7 @@ join-step : (k cut : ℕ) (ws v : List ℕ) (c d x y : ℕ) {r : ℕ} → 16 ≤
     → stepped k cut ws c (record { words = v; place = d; last = y }) ≡ record { words = set v d y; place = (d + 7) % 8; last = r }
 unfolding stepped
 join-step k cut ws v c d x y h l e er =
-    ap₂ (λ (m z : ℕ). record { words = set v d y; place = (d + m) % 8; last = made (kindOf c) (getD ws c 0) k cut z y }) (sym (moves-back c h l .0)) e
+    ap₂ (λ (m z : ℕ). record { words = set v d y; place = (d + m) % 8; last = madeOf (codeKind c) (getD ws c 0) k cut z y }) (sym (moves-back c h l .0)) e
     ∙ ap (λ (z : ℕ). record { words = set v d y; place = (d + 7) % 8; last = z }) (sym (made-joined c (getD ws c 0) k cut x y h l er))
 
 -- three codes that join two stores
@@ -185,15 +185,15 @@ module _ (k cut : ℕ) (ws cs v : List ℕ) (d b j : ℕ) (p : Joins cs j) (long
 
 -- ---- the loop
 
-pub going-start : (k cut : ℕ) (ws cs v : List ℕ) → v ≡ begun .words → Going k cut ws cs v 0 0 0
-going-start k cut ws cs v e = record {
+pub evaluating-start : (k cut : ℕ) (ws cs v : List ℕ) → v ≡ begun .words → Evaluating k cut ws cs v 0 0 0
+evaluating-start k cut ws cs v e = record {
   inside = omega arith;
   long = ap length e;
   same = ap (λ (x : List ℕ). evaluated k cut ws cs (record { words = x; place = 0; last = 0 })) e;
 }
 
-module _ {k cut : ℕ} {ws cs v : List ℕ} {d b j : ℕ} (g : Going k cut ws cs v d b j) where
-  pub goes-on : {u : List ℕ} {t : Turn} → Turned k cut ws cs j v d b u t → Going k cut ws cs u (t .place) (t .last) (t .next)
+module _ {k cut : ℕ} {ws cs v : List ℕ} {d b j : ℕ} (g : Evaluating k cut ws cs v d b j) where
+  pub goes-on : {u : List ℕ} {t : Turn} → Turned k cut ws cs j v d b u t → Evaluating k cut ws cs u (t .place) (t .last) (t .next)
   goes-on w = record { inside = w .inside; long = w .long ∙ g .long; same = w .same ∙ g .same }
 
   pub all-done : length cs ≤ j → b ≡ evaluated k cut ws cs begun

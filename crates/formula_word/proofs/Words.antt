@@ -7,10 +7,11 @@ use native.Mathlib.Omega.{arith}
 use borrow.Author.Tests.{ltb-true, ltb-false}
 use lib.Dec.{ltb}
 use lib.ListN.{length, getD, List·getD-eq-default}
-use Rattle.store.specs.Layout.{top, maxCap, room, layerLen, storeLen, cap, endOf}
+use Rattle.store.specs.Layout.{top, maxCap, room, layerLen, storeLen, cap, endOf, topMost}
 use Rattle.store.specs.Word.{word}
 use Rattle.store.proofs.Ends.{end-is}
 use Rattle.store.proofs.Geometry.{end-step}
+use Rattle.store.proofs.TopLayer.{top-high}
 use Rattle.store.proofs.Words.{word-in, word-out}
 use Rattle.formula_codes.specs.Codes.{treeOf, cutsIn}
 use Rattle.formula_codes.specs.Tree.{existing, four, nth, treeWord}
@@ -28,18 +29,18 @@ module _ (a b c d cs : List ℕ) where
   word-at-is k cut at e0 e1 e2 e3 r = r ∙ rw (e0, e1, e2, e3)
 
   module _ (N layer i : ℕ) where
-    pub word-is : {at cut r : ℕ} → at ≡ placeOf N (layer % 4) i → cut ≡ existing (placesIn N (layer % 4)) i
-        → r ≡ wordAt (four a b c d) cs (layer % 4) cut at → r ≡ machineWord N (four a b c d) cs layer i
+    pub word-is : {at cut r : ℕ} → at ≡ placeOf N (layer % suc topMost) i → cut ≡ existing (placesIn N (layer % suc topMost)) i
+        → r ≡ wordAt (four a b c d) cs (layer % suc topMost) cut at → r ≡ machineWord N (four a b c d) cs layer i
     unfolding machineWord
-    word-is at cut r = r ∙ ap₂ (wordAt (four a b c d) cs (layer % 4)) cut at
+    word-is at cut r = r ∙ ap₂ (wordAt (four a b c d) cs (layer % suc topMost)) cut at
 
     -- the bits that exist are looked up only where some code looks at them
-    pub word-cut-is : {at cut r : ℕ} {x : Bool} → at ≡ placeOf N (layer % 4) i → x ≡ cutsIn cs → cut ≡ cond x (existing (placesIn N (layer % 4)) i) 0
-        → r ≡ wordAt (four a b c d) cs (layer % 4) cut at → r ≡ machineWord N (four a b c d) cs layer i
+    pub word-cut-is : {at cut r : ℕ} {x : Bool} → at ≡ placeOf N (layer % suc topMost) i → x ≡ cutsIn cs → cut ≡ cond x (existing (placesIn N (layer % suc topMost)) i) 0
+        → r ≡ wordAt (four a b c d) cs (layer % suc topMost) cut at → r ≡ machineWord N (four a b c d) cs layer i
     unfolding wordAt
     word-cut-is {at} {cut} {x = true} e x-is cut-is r = word-is e cut-is r
     word-cut-is {at} {cut} {x = false} e x-is cut-is r =
-        word-is e refl (r ∙ uncut (layer % 4) cut (existing (placesIn N (layer % 4)) i) (map (λ s. getD s at 0) (four a b c d)) cs begun (sym x-is))
+        word-is e refl (r ∙ uncut (layer % suc topMost) cut (existing (placesIn N (layer % suc topMost)) i) (map (λ s. getD s at 0) (four a b c d)) cs begun (sym x-is))
 
 -- a word of each of a list of slices, and of one by its number
 each : (f : List ℕ → ℕ) (ss : List (List ℕ)) (c : ℕ) → f [] ≡ 0 → getD (map f ss) c 0 ≡ f (nth ss c)
@@ -73,11 +74,11 @@ places-are N (suc k) some most low = words-are N k some most (omega arith)
 -- THE WORD of a formula over stores of capacity N is the tree's.
 pub machine-tree : (a b c d cs : List ℕ) (k i : ℕ) → Accepted a b c d cs → k ≤ top (cap a)
     → machineWord (cap a) (four a b c d) cs k i ≡ treeWord (cap a) (four a b c d) (treeOf cs) k i
-unfolding machineWord wordAt treeWord treeOf top
+unfolding machineWord wordAt treeWord treeOf
 machine-tree a b c d cs k i g low =
     let N = cap a in
     let ss = four a b c d in
-    let m : k % 4 ≡ k = omega arith in
+    let m : k % suc topMost ≡ k = omega (arith, top-high (cap a)) in
     let z = g .first in
     let w : ℕ → ℕ = λ x. word N (nth ss x) k i in
     let leaf : (x : ℕ) → getD (map (λ s. getD s (placeOf N k i) 0) ss) x 0 ≡ w x =

@@ -1,12 +1,12 @@
 -- The word of a formula as it is computed: the codes one after another, on a stack of eight places. For every list of codes and every
 -- number; for a formula over stores of capacity N it is the tree's word.
 use mathlib.Core.List.{List, [], _∷_, map}
-use Prim.Native.Nat.{ℕ, _+_, _%_}
-use lib.Bits.{bitAnd, bitOr}
+use Prim.Native.Nat.{ℕ, suc, _+_, _%_}
 use lib.ListN.{getD, set, replicate}
-use Rattle.formula_codes.specs.Codes.{Kind, kindOf}
-use Rattle.formula_codes.specs.Codes.Kind.{isStore, isBoth, isEither, isOneOf, isInverse, isEvery, isUnknown}
-use Rattle.formula_codes.specs.Tree.{existing, xorIn, notIn}
+use Rattle.store.specs.Layout.{topMost}
+use Rattle.formula_codes.specs.Codes.{CodeKind, codeKind}
+use Rattle.formula_codes.specs.Codes.CodeKind.{isStore, isBoth, isEither, isOneOf, isInverse, isEvery, isUnknown}
+use Rattle.formula_codes.specs.Tree.{existing, joined, notIn}
 use Rattle.formula_place.specs.Spots.{placesIn, placeOf}
 
 -- ---- one code
@@ -18,17 +18,17 @@ pub record Stack : Type 0 where
   pub last : ℕ
 
 -- what a code makes of the last two, a and b, in layer k, where w is the word of the store that it names
-unfoldable pub made : Kind → ℕ → ℕ → ℕ → ℕ → ℕ → ℕ
-made isStore w k cut a b = w
-made isBoth w k cut a b = bitAnd a b
-made isEither w k cut a b = bitOr a b
-made isOneOf w k cut a b = xorIn k a b
-made isInverse w k cut a b = notIn k cut b
-made isEvery w k cut a b = cut
-made isUnknown w k cut a b = b
+unfoldable pub madeOf : CodeKind → ℕ → ℕ → ℕ → ℕ → ℕ → ℕ
+madeOf isStore w k cut a b = w
+madeOf isBoth w k cut a b = joined 16 k a b
+madeOf isEither w k cut a b = joined 17 k a b
+madeOf isOneOf w k cut a b = joined 18 k a b
+madeOf isInverse w k cut a b = notIn k cut b
+madeOf isEvery w k cut a b = cut
+madeOf isUnknown w k cut a b = b
 
 -- how far the place goes on, in a ring of eight: one more value, one less, or as many
-unfoldable pub moves : Kind → ℕ
+unfoldable pub moves : CodeKind → ℕ
 moves isStore = 1
 moves isBoth = 7
 moves isEither = 7
@@ -43,8 +43,8 @@ stepped k cut ws c s =
     let v = set (s .words) (s .place) (s .last) in
     record {
       words = v;
-      place = (s .place + moves (kindOf c)) % 8;
-      last = made (kindOf c) (getD ws c 0) k cut (getD v ((s .place + 7) % 8) 0) (s .last);
+      place = (s .place + moves (codeKind c)) % 8;
+      last = madeOf (codeKind c) (getD ws c 0) k cut (getD v ((s .place + 7) % 8) 0) (s .last);
     }
 
 -- ---- all of them
@@ -60,8 +60,8 @@ begun = record { words = replicate 8 0; place = 0; last = 0 }
 unfoldable pub wordAt : List (List ℕ) → List ℕ → ℕ → ℕ → ℕ → ℕ
 wordAt ss cs k cut at = evaluated k cut (map (λ s. getD s at 0) ss) cs begun
 
--- word i of a layer; the layer's number counts modulo 4
+-- word i of a layer; layers count modulo their number
 unfoldable pub machineWord : ℕ → List (List ℕ) → List ℕ → ℕ → ℕ → ℕ
 machineWord N ss cs layer i =
-    let k = layer % 4 in
+    let k = layer % suc topMost in
     wordAt ss cs k (existing (placesIn N k) i) (placeOf N k i)

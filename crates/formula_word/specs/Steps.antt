@@ -7,7 +7,7 @@ use Rattle.formula_word.specs.Machine.{evaluated, begun}
 use Rattle.formula_word.specs.declared.Turn.{Turn}
 
 -- after j codes: the value of the others on this stack is the value of all
-pub record Going (k cut : ℕ) (ws cs v : List ℕ) (d b j : ℕ) : Type 0 where
+pub record Evaluating (k cut : ℕ) (ws cs v : List ℕ) (d b j : ℕ) : Type 0 where
   pub inside : d < 8
   pub long : length v ≡ 8
   pub same : evaluated k cut ws (drop j cs) (record { words = v; place = d; last = b }) ≡ evaluated k cut ws cs begun

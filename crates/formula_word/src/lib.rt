@@ -2,16 +2,17 @@
 // `BitSetAll` of ops.rs.
 ghost use mathlib.Core.Bool.{true};
 ghost use mathlib.Core.Path.{_≡_};
-ghost use Prim.Native.Nat.{_%_, _≤_, _<_};
+ghost use Prim.Native.Nat.{suc, _%_, _≤_, _<_};
 ghost use lib.ListN.{length, getD};
-ghost use Rattle.formula_codes.specs.Codes.{kindOf};
+ghost use Rattle.store.specs.Layout.{topMost};
+ghost use Rattle.formula_codes.specs.Codes.{codeKind};
 ghost use Rattle.formula_codes.specs.Tree.{four};
-ghost use Rattle.formula_word.specs.Machine.{made, moves, evaluated, begun, wordAt, machineWord};
-ghost use Rattle.formula_word.specs.Steps.{JoinsTwo, Joins, Going, Turned};
+ghost use Rattle.formula_word.specs.Machine.{madeOf, moves, evaluated, begun, wordAt, machineWord};
+ghost use Rattle.formula_word.specs.Steps.{JoinsTwo, Joins, Evaluating, Turned};
 
 // What a code makes of the last two values in layer k, where the bits that exist are `cut` and the stores' words are `words`.
 fn made(code: u8, k: usize, cut: u64, words: &[u64; 4], a: u64, b: u64) -> u64
-    ensures { λ r. ⌜ r ≡ made (kindOf code) (getD (now (words .entry)) code 0) k cut a b ⌝ }
+    ensures { λ r. ⌜ r ≡ madeOf (codeKind code) (getD (now (words .entry)) code 0) k cut a b ⌝ }
 {
     match code {
         0..=3 => {
@@ -32,7 +33,7 @@ fn made(code: u8, k: usize, cut: u64, words: &[u64; 4], a: u64, b: u64) -> u64
 
 // How far a code moves the place of the last value, in a ring of eight.
 fn moves(code: u8) -> usize
-    ensures { λ r. ⌜ (r ≡ moves (kindOf code)) × (r ≤ 7) ⌝ }
+    ensures { λ r. ⌜ (r ≡ moves (codeKind code)) × (r ≤ 7) ⌝ }
 {
     match code {
         0..=3 => 1,
@@ -163,7 +164,7 @@ fn next_turn(
 // The first codes, where two stores are joined: nothing waits yet, so that the places in the stack are known to the compiler.
 fn opening(codes: &[u8], k: usize, cut: u64, words: &[u64; 4], stack: &mut [u64]) -> Turn
     requires { ⌜ now stack ≡ begun .words ⌝ }
-    ensures { λ r. ⌜ Going k cut (now (words .entry)) (now (codes .entry)) (now (stack .exit)) (r .place) (r .last) (r .next) ⌝ }
+    ensures { λ r. ⌜ Evaluating k cut (now (words .entry)) (now (codes .entry)) (now (stack .exit)) (r .place) (r .last) (r .next) ⌝ }
 {
     if joins(codes, 0) {
         return three(codes, 0, k, cut, words, stack, 0, 0);
@@ -204,7 +205,8 @@ pub fn word_at(
     s2: &[u64],
     s3: &[u64],
 ) -> u64
-    ensures { λ r. ⌜ r ≡ wordAt (four (now (s0 .entry)) (now (s1 .entry)) (now (s2 .entry)) (now (s3 .entry))) (now (codes .entry)) (layer % 4) cut at ⌝ }
+    ensures { λ r. ⌜ (let ss = four (now (s0 .entry)) (now (s1 .entry)) (now (s2 .entry)) (now (s3 .entry)) in
+        r ≡ wordAt ss (now (codes .entry)) (layer % suc topMost) cut at) ⌝ }
 {
     let words = [
         store::get(s0, at),
@@ -212,10 +214,10 @@ pub fn word_at(
         store::get(s2, at),
         store::get(s3, at),
     ];
-    evaluate(codes, layer % 4, cut, &words)
+    evaluate(codes, layer % store::LAYERS, cut, &words)
 }
 
-// Word i of a layer of a formula over four slices, those that are stores being of capacity n; the layer's number counts modulo 4.
+// Word i of a layer of a formula over four slices, those that are stores being of capacity n; layers count modulo their number.
 pub fn word(
     codes: &[u8],
     n: usize,
@@ -226,7 +228,8 @@ pub fn word(
     s2: &[u64],
     s3: &[u64],
 ) -> u64
-    ensures { λ r. ⌜ r ≡ machineWord n (four (now (s0 .entry)) (now (s1 .entry)) (now (s2 .entry)) (now (s3 .entry))) (now (codes .entry)) layer i ⌝ }
+    ensures { λ r. ⌜ (let ss = four (now (s0 .entry)) (now (s1 .entry)) (now (s2 .entry)) (now (s3 .entry)) in
+        r ≡ machineWord n ss (now (codes .entry)) layer i) ⌝ }
 {
     let cut = formula_place::cut(true, n, layer, i);
     let at = formula_place::spot(n, layer, i);

@@ -1,6 +1,6 @@
 // The listing program: lines of standard input add, remove and ask for ids, and each line's answer is printed. Input is read in pieces of
 // 65,536 bytes, and a line that a piece's end cuts goes on in the next one; of a line its first 13 bytes are kept, since no line that
-// means something is longer than 12. What is printed is gathered in a buffer of 65,536 bytes. The store is a store and sound at every line.
+// means something is longer than 12. What is printed is joined in a buffer of 65,536 bytes. The store is a store and sound at every line.
 ghost use Prim.Native.Nat.{_+_, _≤_, _<_, _^_};
 ghost use lib.ListN.{length};
 ghost use Rattle.io.specs.Counts.{Counts};
@@ -40,7 +40,7 @@ fn feed(store: &mut [u64], line: &mut [u8], buf: &mut [u8], st: State, piece: &[
     let mut s = st;
     let mut i = 0usize;
     while i < piece.len() {
-        let g = text_in::gather(line, s.len, piece, i);
+        let g = text_in::gather_line(line, s.len, piece, i);
         i = g.next;
         s = step(store, line, buf, s, g.len, g.ended);
     }

@@ -200,7 +200,7 @@ cut line = go (decLt 13 (length line))
 -- ---- samples, computed
 
 -- document 01: `a 5`, `a 70`, `c 6`, `r 5`, `a 262144`, `w`, `x`
-pub sample : (commandOf (97 ∷ 32 ∷ 53 ∷ []) ≡ Add 5)
+pub sample-commands : (commandOf (97 ∷ 32 ∷ 53 ∷ []) ≡ Add 5)
     × (commandOf (97 ∷ 32 ∷ 55 ∷ 48 ∷ []) ≡ Add 70)
     × (commandOf (99 ∷ 32 ∷ 54 ∷ []) ≡ Contains 6)
     × (commandOf (114 ∷ 32 ∷ 53 ∷ []) ≡ Remove 5)
@@ -208,7 +208,7 @@ pub sample : (commandOf (97 ∷ 32 ∷ 53 ∷ []) ≡ Add 5)
     × (commandOf (119 ∷ []) ≡ Members)
     × (commandOf (120 ∷ []) ≡ Unknown)
 unfolding commandOf idOf withId digits digitOf valueAfter
-sample = (refl, refl, refl, refl, refl, refl, refl)
+sample-commands = (refl, refl, refl, refl, refl, refl, refl)
 
 -- zeros in front: `c 0000000070` is 70, and with one more digit it is none; `c 4294967295` is the last id, `c 4294967296` is none
 pub sample-digits : (commandOf (99 ∷ 32 ∷ 48 ∷ 48 ∷ 48 ∷ 48 ∷ 48 ∷ 48 ∷ 48 ∷ 48 ∷ 55 ∷ 48 ∷ []) ≡ Contains 70)

@@ -103,7 +103,7 @@ read-back front behind n most h l none =
     )
 
 -- the number at place 2 of `x 0042 7` is 42, and ends at place 6; one past 64 bits is nothing
-pub sample : (numberOf (120 ∷ 32 ∷ 48 ∷ 48 ∷ 52 ∷ 50 ∷ 32 ∷ 55 ∷ []) 2 18446744073709551615 ≡ Is 42 6)
+pub sample-numbers : (numberOf (120 ∷ 32 ∷ 48 ∷ 48 ∷ 52 ∷ 50 ∷ 32 ∷ 55 ∷ []) 2 18446744073709551615 ≡ Is 42 6)
     × (numberOf (decimalOf 18446744073709551616) 0 18446744073709551615 ≡ Nothing)
 unfolding numberOf digits digitOf valueAfter spelled
-sample = (refl, refl)
+sample-numbers = (refl, refl)

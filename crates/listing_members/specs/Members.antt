@@ -21,15 +21,15 @@ abbrev pub lineOf : List ℕ → List ℕ
 lineOf l = 119 ∷ (idsOf l ++ (10 ∷ []))
 
 -- w refused 2
-abbrev pub refused : List ℕ
-refused = 119 ∷ 32 ∷ 114 ∷ 101 ∷ 102 ∷ 117 ∷ 115 ∷ 101 ∷ 100 ∷ 32 ∷ 50 ∷ 10 ∷ []
+abbrev pub refusedLine : List ℕ
+refusedLine = 119 ∷ 32 ∷ 114 ∷ 101 ∷ 102 ∷ 117 ∷ 115 ∷ 101 ∷ 100 ∷ 32 ∷ 50 ∷ 10 ∷ []
 
 -- what a walk of a store hands out, sound or not; another slice is refused by its number, as the program's other lines are
-unfoldable pub membersOf : List ℕ → List ℕ
-membersOf s = cond (isStore s) (lineOf (walked s)) refused
+unfoldable pub membersLine : List ℕ → List ℕ
+membersLine s = cond (isStore s) (lineOf (walked s)) refusedLine
 
 -- the ids that the line names are the members, each once, rising
 pub record Named (s ids : List ℕ) : Type 0 where
-  pub line : membersOf s ≡ lineOf ids
+  pub line : membersLine s ≡ lineOf ids
   pub exact : (i : ℕ) → List·Memᴰ i ids ↔ Member s i
   pub rising : Rising 0 ids

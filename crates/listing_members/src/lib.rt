@@ -4,20 +4,20 @@ ghost use mathlib.Core.List.{_∷_};
 ghost use mathlib.Core.Path.{_≡_};
 ghost use Rattle.store.specs.Layout.{isStore};
 ghost use Rattle.walk_batches.specs.Steps.{walked};
-ghost use Rattle.text_out.specs.Out.{held, putAllOf, decimalOf};
-ghost use Rattle.listing_members.specs.Members.{idsOf, membersOf};
+ghost use Rattle.text_out.specs.Out.{holding, putAllOf, decimalOf};
+ghost use Rattle.listing_members.specs.Members.{idsOf, membersLine};
 
 // A blank and an id.
 fn put_id(buf: &mut [u8], at: usize, id: u32) -> usize
-    ensures { λ r. ⌜ held (now (buf .exit)) r ≡ putAllOf (now (buf .entry)) at (32 ∷ decimalOf id) ⌝ }
+    ensures { λ r. ⌜ holding (now (buf .exit)) r ≡ putAllOf (now (buf .entry)) at (32 ∷ decimalOf id) ⌝ }
 {
-    let a = text_out::put(buf, at, b' ');
+    let a = text_out::put_byte(buf, at, b' ');
     text_out::put_number(buf, a, id as u64)
 }
 
 // Each id of a batch after a blank.
 fn put_ids(buf: &mut [u8], at: usize, ids: &[u32]) -> usize
-    ensures { λ r. ⌜ held (now (buf .exit)) r ≡ putAllOf (now (buf .entry)) at (idsOf (now (ids .entry))) ⌝ }
+    ensures { λ r. ⌜ holding (now (buf .exit)) r ≡ putAllOf (now (buf .entry)) at (idsOf (now (ids .entry))) ⌝ }
 {
     let mut a = at;
     let mut i = 0usize;
@@ -31,7 +31,7 @@ fn put_ids(buf: &mut [u8], at: usize, ids: &[u32]) -> usize
 // Each id that a walk of the store hands out, 64 ids at a time.
 fn put_walked(buf: &mut [u8], at: usize, store: &[u64]) -> usize
     requires { ⌜ isStore (now store) ≡ true ⌝ }
-    ensures { λ r. ⌜ held (now (buf .exit)) r ≡ putAllOf (now (buf .entry)) at (idsOf (walked (now (store .entry)))) ⌝ }
+    ensures { λ r. ⌜ holding (now (buf .exit)) r ≡ putAllOf (now (buf .entry)) at (idsOf (walked (now (store .entry)))) ⌝ }
 {
     let mut ids = [0u32; 64];
     let mut c = walk_batches::started(store);
@@ -50,12 +50,12 @@ fn put_walked(buf: &mut [u8], at: usize, store: &[u64]) -> usize
 
 // The whole line. A slice that is no store is refused by its number.
 pub fn put_members(buf: &mut [u8], at: usize, store: &[u64]) -> usize
-    ensures { λ r. ⌜ held (now (buf .exit)) r ≡ putAllOf (now (buf .entry)) at (membersOf (now (store .entry))) ⌝ }
+    ensures { λ r. ⌜ holding (now (buf .exit)) r ≡ putAllOf (now (buf .entry)) at (membersLine (now (store .entry))) ⌝ }
 {
     if store::capacity(store) == 0 {
         return text_out::put_all(buf, at, b"w refused 2\n");
     }
-    let a = text_out::put(buf, at, b'w');
+    let a = text_out::put_byte(buf, at, b'w');
     let b = put_walked(buf, a, store);
-    text_out::put(buf, b, b'\n')
+    text_out::put_byte(buf, b, b'\n')
 }

@@ -10,7 +10,7 @@ use lib.ListN.{take, drop}
 use Rattle.store.specs.declared.Asked.{Asked}
 use Rattle.store.specs.declared.Asked.the-variants.{Is, Refused}
 use Rattle.text_out.specs.Out.{decimalOf}
-use Rattle.listing_printed.specs.Reply.{wordBy, wordOf, refused, endOf, replyOf, spanBy, spanOf}
+use Rattle.listing_printed.specs.Reply.{wordBy, replyWord, refusedText, endText, replyOf, spanBy, spanOf}
 use Rattle.listing_printed.specs.declared.Span.{Span}
 
 -- ---- where the words stand
@@ -25,12 +25,12 @@ words =
     ∷ 10 ∷ 32 ∷ 121 ∷ 101 ∷ 115 ∷ 10 ∷ 32 ∷ 110 ∷ 111 ∷ 10 ∷ []
 
 -- a span lies inside them, and has its word
-pub record Inside (word : List ℕ) (s : Span) : Type 0 where
+pub record InSpan (word : List ℕ) (s : Span) : Type 0 where
   pub from-to : s .from ≤ s .to
   pub to-end : s .to ≤ 34
   pub has : take (s .to - s .from) (drop (s .from) words) ≡ 32 ∷ (word ++ (10 ∷ []))
 
-inside-by : (a r held : Bool) → Inside (wordBy a r held) (spanBy a r held)
+inside-by : (a r held : Bool) → InSpan (wordBy a r held) (spanBy a r held)
 inside-by true r true = record { from-to = omega arith; to-end = omega arith; has = refl }
 inside-by true r false = record { from-to = omega arith; to-end = omega arith; has = refl }
 inside-by false true true = record { from-to = omega arith; to-end = omega arith; has = refl }
@@ -38,19 +38,19 @@ inside-by false true false = record { from-to = omega arith; to-end = omega arit
 inside-by false false true = record { from-to = omega arith; to-end = omega arith; has = refl }
 inside-by false false false = record { from-to = omega arith; to-end = omega arith; has = refl }
 
-pub inside : (letter : ℕ) (held : Bool) → Inside (wordOf letter held) (spanOf letter held)
+pub inside : (letter : ℕ) (held : Bool) → InSpan (replyWord letter held) (spanOf letter held)
 inside letter held = inside-by (eqb letter 97) (eqb letter 114) held
 
 -- ---- the pieces of a line
 
-pub end-word : (letter : ℕ) (held : Bool) → endOf letter (Is held) ≡ 32 ∷ (wordOf letter held ++ (10 ∷ []))
-unfolding endOf
+pub end-word : (letter : ℕ) (held : Bool) → endText letter (Is held) ≡ 32 ∷ (replyWord letter held ++ (10 ∷ []))
+unfolding endText
 end-word letter held = refl
 
-pub end-refused : (letter n : ℕ) → endOf letter (Refused n) ≡ (32 ∷ (refused ++ (32 ∷ []))) ++ (decimalOf n ++ (10 ∷ []))
-unfolding endOf
+pub end-refused : (letter n : ℕ) → endText letter (Refused n) ≡ (32 ∷ (refusedText ++ (32 ∷ []))) ++ (decimalOf n ++ (10 ∷ []))
+unfolding endText
 end-refused letter n = refl
 
-pub reply-is : (letter id : ℕ) (a : Asked) → replyOf letter id a ≡ (letter ∷ 32 ∷ decimalOf id) ++ endOf letter a
+pub reply-is : (letter id : ℕ) (a : Asked) → replyOf letter id a ≡ (letter ∷ 32 ∷ decimalOf id) ++ endText letter a
 unfolding replyOf
 reply-is letter id a = refl

@@ -18,23 +18,23 @@ wordBy false true false = 97 ∷ 98 ∷ 115 ∷ 101 ∷ 110 ∷ 116 ∷ []
 wordBy false false true = 121 ∷ 101 ∷ 115 ∷ []
 wordBy false false false = 110 ∷ 111 ∷ []
 
-abbrev pub wordOf : ℕ → Bool → List ℕ
-wordOf letter held = wordBy (eqb letter 97) (eqb letter 114) held
+abbrev pub replyWord : ℕ → Bool → List ℕ
+replyWord letter held = wordBy (eqb letter 97) (eqb letter 114) held
 
 -- refused
-abbrev pub refused : List ℕ
-refused = 114 ∷ 101 ∷ 102 ∷ 117 ∷ 115 ∷ 101 ∷ 100 ∷ []
+abbrev pub refusedText : List ℕ
+refusedText = 114 ∷ 101 ∷ 102 ∷ 117 ∷ 115 ∷ 101 ∷ 100 ∷ []
 
-abbrev pub answerOf : ℕ → Asked → List ℕ
-answerOf letter (Is held) = wordOf letter held
-answerOf letter (Refused n) = refused ++ (32 ∷ decimalOf n)
+abbrev pub answerText : ℕ → Asked → List ℕ
+answerText letter (Is held) = replyWord letter held
+answerText letter (Refused n) = refusedText ++ (32 ∷ decimalOf n)
 
 -- the answer, with the blank before it and the line's end behind it
-unfoldable pub endOf : ℕ → Asked → List ℕ
-endOf letter a = 32 ∷ (answerOf letter a ++ (10 ∷ []))
+unfoldable pub endText : ℕ → Asked → List ℕ
+endText letter a = 32 ∷ (answerText letter a ++ (10 ∷ []))
 
 unfoldable pub replyOf : ℕ → ℕ → Asked → List ℕ
-replyOf letter id a = letter ∷ 32 ∷ (decimalOf id ++ endOf letter a)
+replyOf letter id a = letter ∷ 32 ∷ (decimalOf id ++ endText letter a)
 
 -- where the code has the words, one behind the other
 abbrev span : ℕ → ℕ → Span

@@ -2,8 +2,8 @@
 ghost use mathlib.Core.List.{_∷_};
 ghost use mathlib.Core.Path.{_≡_};
 ghost use Rattle.store.specs.declared.Asked.the-variants.{Is, Refused};
-ghost use Rattle.text_out.specs.Out.{held, putAllOf, decimalOf};
-ghost use Rattle.listing_printed.specs.Reply.{spanOf, endOf, replyOf};
+ghost use Rattle.text_out.specs.Out.{holding, putAllOf, decimalOf};
+ghost use Rattle.listing_printed.specs.Reply.{spanOf, endText, replyOf};
 use store::Asked;
 
 // A part of the words.
@@ -37,7 +37,7 @@ fn place(letter: u8, yes: bool) -> Span
 
 // The word of an answer, with the blank before it and the line's end behind it.
 fn put_word(buf: &mut [u8], at: usize, letter: u8, yes: bool) -> usize
-    ensures { λ r. ⌜ held (now (buf .exit)) r ≡ putAllOf (now (buf .entry)) at (endOf letter (Is yes)) ⌝ }
+    ensures { λ r. ⌜ holding (now (buf .exit)) r ≡ putAllOf (now (buf .entry)) at (endText letter (Is yes)) ⌝ }
 {
     let s = place(letter, yes);
     let from = s.from;
@@ -48,25 +48,25 @@ fn put_word(buf: &mut [u8], at: usize, letter: u8, yes: bool) -> usize
 
 // `refused` and the number.
 fn put_refused(buf: &mut [u8], at: usize, letter: u8, number: u32) -> usize
-    ensures { λ r. ⌜ held (now (buf .exit)) r ≡ putAllOf (now (buf .entry)) at (endOf letter (Refused number)) ⌝ }
+    ensures { λ r. ⌜ holding (now (buf .exit)) r ≡ putAllOf (now (buf .entry)) at (endText letter (Refused number)) ⌝ }
 {
     let a = text_out::put_all(buf, at, b" refused ");
     let b = text_out::put_number(buf, a, number as u64);
-    text_out::put(buf, b, b'\n')
+    text_out::put_byte(buf, b, b'\n')
 }
 
 // Letter, blank and id.
 fn put_front(buf: &mut [u8], at: usize, letter: u8, id: u32) -> usize
-    ensures { λ r. ⌜ held (now (buf .exit)) r ≡ putAllOf (now (buf .entry)) at (letter ∷ 32 ∷ decimalOf id) ⌝ }
+    ensures { λ r. ⌜ holding (now (buf .exit)) r ≡ putAllOf (now (buf .entry)) at (letter ∷ 32 ∷ decimalOf id) ⌝ }
 {
-    let a = text_out::put(buf, at, letter);
-    let b = text_out::put(buf, a, b' ');
+    let a = text_out::put_byte(buf, at, letter);
+    let b = text_out::put_byte(buf, a, b' ');
     text_out::put_number(buf, b, id as u64)
 }
 
 // What is printed for a letter and an id that were answered.
 pub fn put_reply(buf: &mut [u8], at: usize, letter: u8, id: u32, answer: Asked) -> usize
-    ensures { λ r. ⌜ held (now (buf .exit)) r ≡ putAllOf (now (buf .entry)) at (replyOf letter id answer) ⌝ }
+    ensures { λ r. ⌜ holding (now (buf .exit)) r ≡ putAllOf (now (buf .entry)) at (replyOf letter id answer) ⌝ }
 {
     let a = put_front(buf, at, letter, id);
     match answer {

@@ -8,10 +8,10 @@ use Rattle.store.specs.declared.Asked.{Asked}
 use Rattle.text_out.specs.Out.{Held, putAllOf}
 use Rattle.listing_line.specs.declared.Command.{Command}
 use Rattle.listing_printed.specs.Reply.{replyOf}
-use Rattle.listing_replies.specs.Replies.{afterOf, answered, printedOf}
+use Rattle.listing_replies.specs.Replies.{afterOf, replyLine, printedOf}
 
 -- the answer of a call is read off its outcome's numbers
-pub answer-is : {X : Type 0} {o : Outcome X} {r : Asked} {x : X} (letter id : ℕ) → Settled askedPaper o r x → replyOf letter id r ≡ answered letter id o
+pub answer-is : {X : Type 0} {o : Outcome X} {r : Asked} {x : X} (letter id : ℕ) → Settled askedPaper o r x → replyOf letter id r ≡ replyLine letter id o
 answer-is {o = o} {r = r} letter id a = ap (replyOf letter id) (sym (askedPaper .same r) ∙ ap (askedPaper .answer) (a .answer))
 
 -- an arm of command x: what it printed and left

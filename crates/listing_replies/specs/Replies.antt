@@ -15,7 +15,7 @@ use Rattle.text_out.specs.Out.{decimalOf}
 use Rattle.listing_line.specs.declared.Command.{Command}
 use Rattle.listing_line.specs.declared.Command.the-variants.{Add, Remove, Contains, List as Members, Unknown}
 use Rattle.listing_printed.specs.Reply.{replyOf}
-use Rattle.listing_members.specs.Members.{membersOf}
+use Rattle.listing_members.specs.Members.{membersLine}
 
 -- the store after it
 abbrev pub afterOf : List ℕ → Command → List ℕ
@@ -26,15 +26,15 @@ afterOf s Members = s
 afterOf s Unknown = s
 
 -- a letter, an id, and what a call answered
-abbrev pub answered : {X : Type 0} → ℕ → ℕ → Outcome X → List ℕ
-answered letter id o = replyOf letter id (askedPaper .answer (o .numbers))
+abbrev pub replyLine : {X : Type 0} → ℕ → ℕ → Outcome X → List ℕ
+replyLine letter id o = replyOf letter id (askedPaper .answer (o .numbers))
 
 -- what is printed for it, in line n
 abbrev pub printedOf : List ℕ → Command → ℕ → List ℕ
-printedOf s (Add i) n = answered 97 i (addOf s i)
-printedOf s (Remove i) n = answered 114 i (removeOf s i)
-printedOf s (Contains i) n = answered 99 i (containsOf s i)
-printedOf s Members n = membersOf s
+printedOf s (Add i) n = replyLine 97 i (addOf s i)
+printedOf s (Remove i) n = replyLine 114 i (removeOf s i)
+printedOf s (Contains i) n = replyLine 99 i (containsOf s i)
+printedOf s Members n = membersLine s
 printedOf s Unknown n = 63 ∷ 32 ∷ (decimalOf n ++ (10 ∷ []))
 
 -- ---- the program's store
@@ -49,5 +49,5 @@ unfoldable pub afterAll : List ℕ → List Command → List ℕ
 afterAll s [] = s
 afterAll s (c ∷ l) = afterAll (afterOf s c) l
 
-abbrev pub opened : List ℕ
-opened = empty 262144
+abbrev pub listingStore : List ℕ
+listingStore = empty 262144

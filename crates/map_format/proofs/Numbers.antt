@@ -14,8 +14,8 @@ use Rattle.map_format.specs.Bytes.{le, num, numAt, Bytes}
 pow-byte : (m : ℕ) → 2 ^ (8 * suc m) ≡ 2 ^ (8 * m) * 256
 pow-byte m = let e : 8 * suc m ≡ 8 * m + 8 = omega arith in ap (λ (k : ℕ). 2 ^ k) e ∙ pow-add 2 (8 * m) 8
 
-pub more : (m x b : ℕ) → x < 2 ^ (8 * m) → b < 256 → x * 256 + b < 2 ^ (8 * suc m)
-more m x b h g = omega (arith, pow-byte m)
+pub byte-more : (m x b : ℕ) → x < 2 ^ (8 * m) → b < 256 → x * 256 + b < 2 ^ (8 * suc m)
+byte-more m x b h g = omega (arith, pow-byte m)
 
 pub pow-at-most : (m : ℕ) → m ≤ 7 → 2 ^ (8 * m) ≤ 2 ^ 56
 pow-at-most m h = let e : 8 * m ≤ 56 = omega arith in pow-mono e

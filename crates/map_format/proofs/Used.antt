@@ -1,11 +1,11 @@
 -- How many words are not zero, counted word by word, the last first.
-use mathlib.Core.Bool.{true, false, not}
+use mathlib.Core.Bool.{true, not}
 use mathlib.Core.List.{List, [], _∷_, _++_}
 use mathlib.Core.Path.{_≡_, refl, sym, ap, _∙_}
 use Prim.Native.Nat.{ℕ, zero, suc, _+_, _-_, _*_, _≤_, _<_}
 use native.Mathlib.Nat.{add-zero}
 use native.Mathlib.Omega.{arith}
-use borrow.Author.Tests.{le-leb, lt-leb}
+use borrow.Author.Tests.{le-leb}
 use lib.Dec.{eqb, leb}
 use lib.ListN.{length, getD, take, length-set, drop-of-length-le}
 use lib.Seq.{set-split, getD-set-same, getD-set-other}
@@ -14,29 +14,29 @@ use Rattle.util.specs.Word.{keep, places}
 use Rattle.store.specs.Build.{flag}
 use Rattle.store.proofs.Build.{flag-lt, flag-one}
 use Rattle.summary_word.proofs.Gathered.{flag-byte}
-use Rattle.map_format.specs.Steps.{ended, usedAt}
+use Rattle.map_format.specs.Steps.{withLast, usedAt}
 
 -- ---- the words with another for the last
 
 module _ (ws : List ℕ) (w : ℕ) where
-  pub length-ended : length (ended ws w) ≡ length ws
-  unfolding ended
-  length-ended = length-set ws (length ws - 1) w
+  pub length-with-last : length (withLast ws w) ≡ length ws
+  unfolding withLast
+  length-with-last = length-set ws (length ws - 1) w
 
   module _ (some : 1 ≤ length ws) where
-    pub ended-is : ended ws w ≡ take (length ws - 1) ws ++ w ∷ []
-    unfolding ended
-    ended-is =
+    pub with-last-is : withLast ws w ≡ take (length ws - 1) ws ++ w ∷ []
+    unfolding withLast
+    with-last-is =
         set-split ws (length ws - 1) w (omega arith)
         ∙ ap (λ (l : List ℕ). take (length ws - 1) ws ++ w ∷ l) (drop-of-length-le ws {i = suc (length ws - 1)} (omega arith))
 
-    ended-last : getD (ended ws w) (length ws - 1) 0 ≡ w
-    unfolding ended
-    ended-last = getD-set-same ws (length ws - 1) w 0 (omega arith)
+    with-last-end : getD (withLast ws w) (length ws - 1) 0 ≡ w
+    unfolding withLast
+    with-last-end = getD-set-same ws (length ws - 1) w 0 (omega arith)
 
-  ended-other : (q : ℕ) → q < length ws - 1 → getD (ended ws w) q 0 ≡ getD ws q 0
-  unfolding ended
-  ended-other q h = getD-set-other ws (length ws - 1) q w 0 (λ e. omega arith)
+  with-last-other : (q : ℕ) → q < length ws - 1 → getD (withLast ws w) q 0 ≡ getD ws q 0
+  unfolding withLast
+  with-last-other q h = getD-set-other ws (length ws - 1) q w 0 (λ e. omega arith)
 
 -- ---- places at which a word is not zero
 
@@ -82,18 +82,18 @@ used-cons w ws =
 
 module _ (ws : List ℕ) (last : ℕ) where
   abbrev word : ℕ → ℕ
-  word q = getD (ended ws last) q 0
+  word q = getD (withLast ws last) q 0
 
-  pub used-is : length (usedAt (ended ws last)) ≡ length (places word 0 (length ws))
+  pub used-is : length (usedAt (withLast ws last)) ≡ length (places word 0 (length ws))
   unfolding usedAt
-  used-is = ap (λ (k : ℕ). length (places word 0 k)) (length-ended ws last)
+  used-is = ap (λ (k : ℕ). length (places word 0 k)) (length-with-last ws last)
 
-  pub used-few : length (usedAt (ended ws last)) ≤ length ws
+  pub used-few : length (usedAt (withLast ws last)) ≤ length ws
   used-few = omega (arith, used-is, places-few word 0 (length ws))
 
 pub record Counted (ws : List ℕ) (last n q : ℕ) : Type 0 where
   pub upto : q ≤ length ws - 1
-  pub rest : n + length (places (word ws last) q (length ws - q)) ≡ length (usedAt (ended ws last)) + flag last
+  pub rest : n + length (places (word ws last) q (length ws - q)) ≡ length (usedAt (withLast ws last)) + flag last
   pub small : n ≤ suc q
 
 module _ {ws : List ℕ} {last : ℕ} where
@@ -117,21 +117,20 @@ module _ {ws : List ℕ} {last : ℕ} where
         let p : q + 1 ≡ suc q = omega arith in
         rw p (record {
           upto = l;
-          rest = omega (arith, h .rest, turn (length ws - suc q) (omega arith), ap (λ (w : ℕ). flag w) (ended-other ws last q l));
+          rest = omega (arith, h .rest, turn (length ws - suc q) (omega arith), ap (λ (w : ℕ). flag w) (with-last-other ws last q l));
           small = omega (arith, h .small, flag-lt (getD ws q 0));
         })
 
-    pub counted-end : 1 ≤ length ws → length ws - 1 ≤ q → n ≡ length (usedAt (ended ws last))
+    pub counted-end : 1 ≤ length ws → length ws - 1 ≤ q → n ≡ length (usedAt (withLast ws last))
     counted-end s l =
         let e : q ≡ length ws - 1 = omega (arith, h .upto) in
-        let w : word ws last q ≡ last = ap (word ws last) e ∙ ended-last ws last s in
+        let w : word ws last q ≡ last = ap (word ws last) e ∙ with-last-end ws last s in
         omega (arith, h .rest, turn 0 (omega arith), ap (λ (w : ℕ). flag w) w, places-few (word ws last) (suc q) 0)
 
--- ---- whether there is room
+-- ---- how long the map is, and whether there is room
 
-module _ (ws : List ℕ) (last bytes : ℕ) where
-  pub room-for-all : 16 + 12 * length ws ≤ bytes → true ≡ leb (16 + 12 * length (usedAt (ended ws last))) bytes
-  room-for-all h = sym (le-leb (16 + 12 * length (usedAt (ended ws last))) bytes (omega (arith, used-few ws last)))
+pub length-none : (ws : List ℕ) (last : ℕ) → length ws ≡ 0 → 16 ≡ 16 + 12 * length (usedAt (withLast ws last))
+length-none ws last h = omega (arith, used-few ws last)
 
-  pub no-room : bytes < 16 + 12 * length ws → length ws ≡ 0 → false ≡ leb (16 + 12 * length (usedAt (ended ws last))) bytes
-  no-room h e = sym (lt-leb (16 + 12 * length (usedAt (ended ws last))) bytes (omega arith))
+pub room-for-all : (ws : List ℕ) (last bytes : ℕ) → 16 + 12 * length ws ≤ bytes → true ≡ leb (16 + 12 * length (usedAt (withLast ws last))) bytes
+room-for-all ws last bytes h = sym (le-leb (16 + 12 * length (usedAt (withLast ws last))) bytes (omega (arith, used-few ws last)))

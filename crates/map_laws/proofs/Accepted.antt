@@ -19,8 +19,8 @@ use Rattle.map_format.specs.Bytes.{le, Bytes}
 use Rattle.map_format.proofs.Numbers.{bytes-at}
 use Rattle.map_write.specs.Map.{countAll, used, entryOf, entries, headOf, mapOf}
 use Rattle.map_write.proofs.Bytes.{entries-append, used-append, count-append}
-use Rattle.map_read.specs.Judge.{countIn, usedIn, offsetIn, table, numberIn, wordIn, behind, entryOk, good, total, fill, wordsOf}
-use Rattle.map_read.proofs.Right.{EntryIs, entry-is, Accepted}
+use Rattle.map_read.specs.Judge.{countIn, usedIn, offsetIn, tableIn, numberIn, wordIn, behind, entryOk, good, total, fillTable, mapWords}
+use Rattle.map_read.proofs.Right.{EntryIs, entry-is, MapTaken}
 use Rattle.map_laws.proofs.Written.{count-zero}
 
 -- ---- entries and counts of zeros
@@ -102,11 +102,11 @@ module _ (N n : ℕ) (p t : List ℕ) (r : ℕ) (b : length p + r ≡ layerLen N
   unfolding upto countAll
   count-upto = count-append (p ++ replicate (gap p t) 0) (wordIn t ∷ []) ∙ omega (arith, count-append p (replicate (gap p t) 0), count-zeros (gap p t))
 
-  step : Made (upto p t) n (behind t) (fill ((upto p t) ++ replicate (r - suc (gap p t)) 0) n (behind t)) → Made p (suc n) t (fill (p ++ replicate r 0) (suc n) t)
-  unfolding fill total
+  step : Made (upto p t) n (behind t) (fillTable ((upto p t) ++ replicate (r - suc (gap p t)) 0) n (behind t)) → Made p (suc n) t (fillTable (p ++ replicate r 0) (suc n) t)
+  unfolding fillTable total
   step z =
-      let x : fill (set (p ++ replicate r 0) (numberIn t) (wordIn t)) n (behind t) ≡ fill ((upto p t) ++ replicate (r - suc (gap p t)) 0) n (behind t) =
-      ap (λ (y : List ℕ). fill y n (behind t)) set-is in
+      let x : fillTable (set (p ++ replicate r 0) (numberIn t) (wordIn t)) n (behind t) ≡ fillTable ((upto p t) ++ replicate (r - suc (gap p t)) 0) n (behind t) =
+      ap (λ (y : List ℕ). fillTable y n (behind t)) set-is in
       let k : 12 + 12 * n ≡ 12 * suc n = omega arith in
       record {
         bytes =
@@ -118,8 +118,8 @@ module _ (N n : ℕ) (p t : List ℕ) (r : ℕ) (b : length p + r ≡ layerLen N
       }
 
 made : (N n : ℕ) (p t : List ℕ) (r : ℕ) → length p + r ≡ layerLen N 0 → 12 * n ≤ length t → Bytes t
-    → good N (length p) n t ≡ true → Made p n t (fill (p ++ replicate r 0) n t)
-unfolding fill total good
+    → good N (length p) n t ≡ true → Made p n t (fillTable (p ++ replicate r 0) n t)
+unfolding fillTable total good
 made N zero p t r b l h g =
     record {
       bytes =
@@ -138,8 +138,8 @@ made N (suc n) p t r b l h g =
     (ap (λ (x : ℕ). good N x n (behind t)) lp ∙ k .1))
 
 -- no bit at or past N
-low-fill : (N n lo : ℕ) (ws t : List ℕ) → Kept N ws → good N lo n t ≡ true → Kept N (fill ws n t)
-unfolding fill good
+low-fill : (N n lo : ℕ) (ws t : List ℕ) → Kept N ws → good N lo n t ≡ true → Kept N (fillTable ws n t)
+unfolding fillTable good
 low-fill N zero lo ws t h g = h
 low-fill N (suc n) lo ws t h g =
     let k = both (entryOk N lo (numberIn t) (wordIn t)) (good N (suc (numberIn t)) n (behind t)) g in
@@ -165,18 +165,18 @@ zeros-low N k i = go (decLt i k)
     go (yes h) = rw (getD-replicate {A = ℕ} k i 0 0 h) (pow-pos (room0 N i))
     go (no h) = rw (List·getD-eq-default {A = ℕ} (replicate k 0) 0 {n = i} (omega (arith, length-replicate {A = ℕ} k 0))) (pow-pos (room0 N i))
 
-pub words-low : {m : List ℕ} {N : ℕ} → Accepted m N → Kept N (wordsOf N m)
-unfolding wordsOf
-words-low {m} {N} a = low-fill N (usedIn m) 0 (replicate (layerLen N 0) 0) (table m) (zeros-low N (layerLen N 0)) (a .all-good)
+pub words-low : {m : List ℕ} {N : ℕ} → MapTaken m N → Kept N (mapWords N m)
+unfolding mapWords
+words-low {m} {N} a = low-fill N (usedIn m) 0 (replicate (layerLen N 0) 0) (tableIn m) (zeros-low N (layerLen N 0)) (a .all-good)
 
-module _ {m : List ℕ} {N : ℕ} (bytes : Bytes m) (a : Accepted m N) where
-  all : Made [] (usedIn m) (table m) (wordsOf N m)
-  unfolding wordsOf
+module _ {m : List ℕ} {N : ℕ} (bytes : Bytes m) (a : MapTaken m N) where
+  all : Made [] (usedIn m) (tableIn m) (mapWords N m)
+  unfolding mapWords
   all =
-      made N (usedIn m) [] (table m) (layerLen N 0) (omega arith) (omega (arith, a .head .table, length-drop 16 m))
+      made N (usedIn m) [] (tableIn m) (layerLen N 0) (omega arith) (omega (arith, a .head .table, length-drop 16 m))
       (λ i. rw (getD-drop 16 m i 0) (bytes (16 + i))) (a .all-good)
 
-  pub words-used : used (wordsOf N m) ≡ usedIn m
+  pub words-used : used (mapWords N m) ≡ usedIn m
   unfolding used
   words-used = omega (arith, all .words)
 
@@ -190,9 +190,9 @@ module _ {m : List ℕ} {N : ℕ} (bytes : Bytes m) (a : Accepted m N) where
       ∙ sym (take-add 12 4 m ∙ ap (λ (x : List ℕ). x ++ take 4 (drop 12 m)) (take-add 8 4 m ∙ ap (λ (x : List ℕ). x ++ take 4 (drop 8 m)) (take-add 4 4 m)))
 
   -- the map of the words is the bytes that were read
-  pub words-map : mapOf N (wordsOf N m) ≡ take (16 + 12 * usedIn m) m
+  pub words-map : mapOf N (mapWords N m) ≡ take (16 + 12 * usedIn m) m
   unfolding mapOf countAll entries
   words-map =
-      let em : countAll (wordsOf N m) ≡ countIn m = omega (arith, all .ones, a .counts) in
+      let em : countAll (mapWords N m) ≡ countIn m = omega (arith, all .ones, a .counts) in
       ap₂ (λ (x y : List ℕ). x ++ y) (ap₂ (λ (x y : ℕ). headOf N x y) em words-used ∙ head-bytes) (all .bytes)
       ∙ sym (take-add 16 (12 * usedIn m) m)

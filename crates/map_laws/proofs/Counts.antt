@@ -1,7 +1,7 @@
 -- THE HEADER'S COUNT is the number of members, whether the store is sound or not.
 use mathlib.Core.List.{List, [], _∷_, _++_, append-nil}
 use mathlib.Core.Path.{_≡_, refl, sym, ap, _∙_, subst}
-use Prim.Native.Nat.{ℕ, zero, suc, _+_, _-_, _/_, _%_, _^_, _≤_, _<_}
+use Prim.Native.Nat.{ℕ, zero, suc, _+_, _-_, _/_, _%_, _^_, _≤_, _<_, min}
 use native.Mathlib.Decide.{ℕ-discrete}
 use native.Mathlib.Omega.{arith}
 use lib.Count.{onesIn}
@@ -12,10 +12,10 @@ use Rattle.util.proofs.Bits.{bit-high}
 use Rattle.util.proofs.Places.{places-append, places-none, length-bits-in}
 use Rattle.store.specs.Build.{build, layerOf, layer0, room0}
 use Rattle.store.specs.Layout.{room, StoreOf}
-use Rattle.store.specs.Word.{word, memberCount}
+use Rattle.store.specs.Word.{word, on, members, memberCount, countBelow}
 use Rattle.store.proofs.Build.{word-build}
 use Rattle.store.proofs.Count.{countWords, count-words}
-use Rattle.map_write.specs.Map.{wordsIn, countAll}
+use Rattle.map_write.specs.Map.{toldWords, countAll}
 use Rattle.map_write.proofs.Bytes.{count-append}
 use Rattle.map_write.proofs.Words.{kept-low}
 use Rattle.map_laws.proofs.Stores.{long-in, made-fine, made-members}
@@ -33,10 +33,10 @@ ones-short r w h l =
 
 module _ {N : ℕ} {s : List ℕ} (z : StoreOf N s) where
   abbrev ws : List ℕ
-  ws = wordsIn N s
+  ws = toldWords N s
 
   abbrev made : List ℕ
-  made = build N (wordsIn N s)
+  made = build N (toldWords N s)
 
   word-made : (q : ℕ) → word N made 0 q ≡ getD ws q 0
   unfolding layerOf
@@ -77,6 +77,11 @@ module _ {N : ℕ} {s : List ℕ} (z : StoreOf N s) where
             ap countAll (sym (take-suc ws (N / 64) 0 (omega (arith, long-in z))) ∙ take-all (suc (N / 64)) ws l),
           )
 
-  -- "member count"
-  pub count-is : countAll (wordsIn N s) ≡ memberCount s
-  count-is = sym count-made ∙ ap length (made-members z)
+  -- "member count": the members, all of them below N
+  pub count-is : countAll (toldWords N s) ≡ countBelow N s N
+  unfolding members
+  count-is =
+      let e : N ≡ min N N = omega arith in
+      sym count-made ∙ ap length (made-members z)
+      ∙ ap (λ (n : ℕ). length (places (on n s 0) 0 n)) (z .names)
+      ∙ ap (λ (n : ℕ). length (places (on N s 0) 0 n)) e

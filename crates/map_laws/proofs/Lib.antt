@@ -3,3 +3,5 @@ pub mod Accepted
 pub mod Stores
 pub mod Counts
 pub mod Theorems
+pub mod Later
+pub mod Asked

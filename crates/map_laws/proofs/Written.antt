@@ -13,14 +13,14 @@ use lib.Pow.{pow-mono}
 use lib.Seq.{drop-at, set-at}
 use Rattle.util.specs.Word.{count}
 use Rattle.store.specs.Build.{room0}
-use Rattle.store.specs.Layout.{maxCap, isCap, room, layerLen}
+use Rattle.store.specs.Layout.{maxCap, isCap, words, room, layerLen}
 use Rattle.store.proofs.Build.{flag-zero, flag-one}
 use Rattle.map_format.specs.Bytes.{le, numAt}
 use Rattle.map_format.proofs.Numbers.{length-le, num-at}
 use Rattle.map_write.specs.Map.{countAll, used, entries, headOf, mapOf}
 use Rattle.map_write.proofs.Bytes.{length-head, length-map, used-le, count-le}
-use Rattle.map_read.specs.Judge.{capIn, countIn, usedIn, offsetIn, table, numberIn, wordIn, behind, entryOk, good, total, fill, wordsOf}
-use Rattle.map_read.proofs.Right.{is-entry, Accepted}
+use Rattle.map_read.specs.Judge.{capIn, countIn, usedIn, offsetIn, tableIn, numberIn, wordIn, behind, entryOk, good, total, fillTable, mapWords}
+use Rattle.map_read.proofs.Right.{is-entry, MapTaken}
 
 -- ---- a table whose first entry is that of word q, which is not zero
 
@@ -65,13 +65,13 @@ count-zero = ones-zero 64
 -- ---- the table of the words from number q on: it is good, has their bits, and puts them at their places
 
 -- the words from number q on have no bit at or past N
-abbrev pub Low : ℕ → ℕ → List ℕ → Type 0
-Low N q ws = (i : ℕ) → getD ws i 0 < 2 ^ room0 N (q + i)
+abbrev pub LowNumbers : ℕ → ℕ → List ℕ → Type 0
+LowNumbers N q ws = (i : ℕ) → getD ws i 0 < 2 ^ room0 N (q + i)
 
-low-tail : (N q w : ℕ) (ws : List ℕ) → Low N q (w ∷ ws) → Low N (suc q) ws
+low-tail : (N q w : ℕ) (ws : List ℕ) → LowNumbers N q (w ∷ ws) → LowNumbers N (suc q) ws
 low-tail N q w ws h i = let e : q + suc i ≡ suc q + i = omega arith in subst (λ (k : ℕ). getD ws i 0 < 2 ^ room0 N k) e (h (suc i))
 
-low-head : (N q w : ℕ) (ws : List ℕ) → Low N q (w ∷ ws) → w < 2 ^ room0 N q
+low-head : (N q w : ℕ) (ws : List ℕ) → LowNumbers N q (w ∷ ws) → w < 2 ^ room0 N q
 low-head N q w ws h = let e : q + 0 ≡ q = omega arith in subst (λ (k : ℕ). w < 2 ^ room0 N k) e (h 0)
 
 word-fits : (N q w : ℕ) → w < 2 ^ room0 N q → w < 2 ^ 64
@@ -82,7 +82,7 @@ module _ (N : ℕ) (most : N ≤ maxCap) (r : List ℕ) where
   unfolding room
   number-fits q ws b = omega (arith, most)
 
-  good-entries : (ws : List ℕ) (q lo : ℕ) → lo ≤ q → q + length ws ≡ layerLen N 0 → Low N q ws → good N lo (used ws) (entries q ws ++ r) ≡ true
+  good-entries : (ws : List ℕ) (q lo : ℕ) → lo ≤ q → q + length ws ≡ layerLen N 0 → LowNumbers N q ws → good N lo (used ws) (entries q ws ++ r) ≡ true
   unfolding good used entries
   good-entries [] q lo a b h = refl
   good-entries (w ∷ ws) q lo a b h = go (λ lo′ l. good-entries ws (suc q) lo′ l (omega arith) (low-tail N q w ws h)) (ℕ-discrete w 0)
@@ -103,7 +103,7 @@ module _ (N : ℕ) (most : N ≤ maxCap) (r : List ℕ) where
           (is-entry (record { rising = a; below = omega arith; some = omega arith; fits = low })) (front-rest q w ws r n hq hw)
           ∙ rest (suc q) (omega arith)
 
-  total-entries : (ws : List ℕ) (q : ℕ) → q + length ws ≡ layerLen N 0 → Low N q ws → total (used ws) (entries q ws ++ r) ≡ countAll ws
+  total-entries : (ws : List ℕ) (q : ℕ) → q + length ws ≡ layerLen N 0 → LowNumbers N q ws → total (used ws) (entries q ws ++ r) ≡ countAll ws
   unfolding total used entries countAll
   total-entries [] q b h = refl
   total-entries (w ∷ ws) q b h = go (total-entries ws (suc q) (omega arith) (low-tail N q w ws h)) (ℕ-discrete w 0)
@@ -118,9 +118,9 @@ module _ (N : ℕ) (most : N ≤ maxCap) (r : List ℕ) where
           ∙ ap₂ (λ (x : ℕ) (l : List ℕ). count x + total (used ws) l) (front-word q w ws r n hq hw) (front-rest q w ws r n hq hw)
           ∙ ap (λ (x : ℕ). count w + x) rest
 
-  fill-entries : (ws p : List ℕ) (q : ℕ) → length p ≡ q → q + length ws ≡ layerLen N 0 → Low N q ws
-      → fill (p ++ replicate (length ws) 0) (used ws) (entries q ws ++ r) ≡ p ++ ws
-  unfolding fill used entries
+  fill-entries : (ws p : List ℕ) (q : ℕ) → length p ≡ q → q + length ws ≡ layerLen N 0 → LowNumbers N q ws
+      → fillTable (p ++ replicate (length ws) 0) (used ws) (entries q ws ++ r) ≡ p ++ ws
+  unfolding fillTable used entries
   fill-entries [] p q l b h = refl
   fill-entries (w ∷ ws) p q l b h = go (λ x. fill-entries ws (p ++ (x ∷ [])) (suc q) (long x) (omega arith) (low-tail N q w ws h)) (ℕ-discrete w 0)
     where
@@ -130,28 +130,28 @@ module _ (N : ℕ) (most : N ≤ maxCap) (r : List ℕ) where
       long : (x : ℕ) → length (p ++ (x ∷ [])) ≡ suc q
       long x = length-append p (x ∷ []) ∙ omega arith
 
-      go : ((x : ℕ) → fill (p ++ (x ∷ []) ++ replicate (length ws) 0) (used ws) (entries (suc q) ws ++ r) ≡ p ++ (x ∷ []) ++ ws) → Dec (w ≡ 0)
-          → fill (p ++ (0 ∷ replicate (length ws) 0)) (used (w ∷ ws)) (entries q (w ∷ ws) ++ r) ≡ p ++ (w ∷ ws)
+      go : ((x : ℕ) → fillTable (p ++ (x ∷ []) ++ replicate (length ws) 0) (used ws) (entries (suc q) ws ++ r) ≡ p ++ (x ∷ []) ++ ws) → Dec (w ≡ 0)
+          → fillTable (p ++ (0 ∷ replicate (length ws) 0)) (used (w ∷ ws)) (entries q (w ∷ ws) ++ r) ≡ p ++ (w ∷ ws)
       go rest (yes e) =
-          ap₂ (fill (p ++ (0 ∷ replicate (length ws) 0))) (used-skip w ws e) (skip-is q ws r w e)
-          ∙ ap (λ (x : List ℕ). fill x (used ws) (entries (suc q) ws ++ r)) (snoc 0 (replicate (length ws) 0))
+          ap₂ (fillTable (p ++ (0 ∷ replicate (length ws) 0))) (used-skip w ws e) (skip-is q ws r w e)
+          ∙ ap (λ (x : List ℕ). fillTable x (used ws) (entries (suc q) ws ++ r)) (snoc 0 (replicate (length ws) 0))
           ∙ rest 0
           ∙ sym (snoc 0 ws) ∙ ap (λ (x : ℕ). p ++ (x ∷ ws)) (sym e)
       go rest (no n) =
           let hq = number-fits q ws b in
           let hw = word-fits N q w (low-head N q w ws h) in
-          ap (λ (k : ℕ). fill (p ++ (0 ∷ replicate (length ws) 0)) k (entries q (w ∷ ws) ++ r)) (used-more w ws n)
-          ∙ ap₂ (λ (x y : ℕ). fill (set (p ++ (0 ∷ replicate (length ws) 0)) x y) (used ws) (behind (entries q (w ∷ ws) ++ r)))
+          ap (λ (k : ℕ). fillTable (p ++ (0 ∷ replicate (length ws) 0)) k (entries q (w ∷ ws) ++ r)) (used-more w ws n)
+          ∙ ap₂ (λ (x y : ℕ). fillTable (set (p ++ (0 ∷ replicate (length ws) 0)) x y) (used ws) (behind (entries q (w ∷ ws) ++ r)))
           (front-number q w ws r n hq hw) (front-word q w ws r n hq hw)
-          ∙ ap₂ (λ (x l : List ℕ). fill x (used ws) l) (set-at p 0 (replicate (length ws) 0) w q l ∙ snoc w (replicate (length ws) 0))
+          ∙ ap₂ (λ (x l : List ℕ). fillTable x (used ws) l) (set-at p 0 (replicate (length ws) 0) w q l ∙ snoc w (replicate (length ws) 0))
           (front-rest q w ws r n hq hw)
           ∙ rest w
           ∙ sym (snoc w ws)
 
 -- ---- the whole map, with any bytes behind it
 
-module _ (N : ℕ) (ws : List ℕ) (some : 1 ≤ N) (most : N ≤ maxCap) (long : length ws ≡ layerLen N 0) (low : Low N 0 ws) (r : List ℕ) where
-  few : length ws ≤ 262144
+module _ (N : ℕ) (ws : List ℕ) (some : 1 ≤ N) (most : N ≤ maxCap) (long : length ws ≡ layerLen N 0) (low : LowNumbers N 0 ws) (r : List ℕ) where
+  few : length ws ≤ words maxCap
   unfolding room
   few = omega (arith, long, most)
 
@@ -193,7 +193,7 @@ module _ (N : ℕ) (ws : List ℕ) (some : 1 ≤ N) (most : N ≤ maxCap) (long 
       ))
       (omega arith)
 
-  at-16 : table (mapOf N ws ++ r) ≡ entries 0 ws ++ r
+  at-16 : tableIn (mapOf N ws ++ r) ≡ entries 0 ws ++ r
   unfolding mapOf
   at-16 =
       ap (drop 16) (append-assoc (headOf N (countAll ws) (used ws)) (entries 0 ws) r)
@@ -203,7 +203,7 @@ module _ (N : ℕ) (ws : List ℕ) (some : 1 ≤ N) (most : N ≤ maxCap) (long 
   unfolding isCap
   capacity = rw (at-0, le-leb 1 N some, le-leb N maxCap most)
 
-  pub map-accepted : Accepted (mapOf N ws ++ r) N
+  pub map-accepted : MapTaken (mapOf N ws ++ r) N
   map-accepted =
       let l : length (mapOf N ws ++ r) ≡ 16 + 12 * used ws + length r = length-append (mapOf N ws) r ∙ omega (arith, length-map N ws) in
       record {
@@ -220,9 +220,9 @@ module _ (N : ℕ) (ws : List ℕ) (some : 1 ≤ N) (most : N ≤ maxCap) (long 
         counts = ap₂ total at-8 at-16 ∙ total-entries N most r ws 0 (omega (arith, long)) low ∙ sym at-4;
       }
 
-  pub map-words : wordsOf N (mapOf N ws ++ r) ≡ ws
-  unfolding wordsOf
+  pub map-words : mapWords N (mapOf N ws ++ r) ≡ ws
+  unfolding mapWords
   map-words =
-      ap₂ (λ (k : ℕ) (t : List ℕ). fill (replicate (layerLen N 0) 0) k t) at-8 at-16
-      ∙ ap (λ (k : ℕ). fill (replicate k 0) (used ws) (entries 0 ws ++ r)) (sym long)
+      ap₂ (λ (k : ℕ) (t : List ℕ). fillTable (replicate (layerLen N 0) 0) k t) at-8 at-16
+      ∙ ap (λ (k : ℕ). fillTable (replicate k 0) (used ws) (entries 0 ws ++ r)) (sym long)
       ∙ fill-entries N most r ws [] 0 refl (omega (arith, long)) low

@@ -9,19 +9,19 @@ use lib.Seq.{take-all, drop-length, drop-at, getD-take, length-take-le}
 use Rattle.util.specs.Outcome.{Outcome, Settled}
 use Rattle.store.specs.Answer.{didPaper, does}
 use Rattle.store.specs.Build.{build, layer0, empty}
-use Rattle.store.specs.Layout.{layerLen, layerStart, storeLen, endOf, StoreOf}
+use Rattle.store.specs.Layout.{layerLen, layerStart, storeLen, startFrom, StoreOf}
 use Rattle.store.specs.declared.Did.{Did}
 use Rattle.store.proofs.Ends.{part}
 use Rattle.store.proofs.Geometry.{is-store, after-header}
 use Rattle.set_whole.specs.Calls.{clearOf}
 use Rattle.summary.specs.Calls.{rebuildOf}
-use Rattle.map_read.specs.Judge.{fill, usedIn, table, wordsOf, numberIn, wordIn, behind}
+use Rattle.map_read.specs.Judge.{fillTable, usedIn, tableIn, mapWords, numberIn, wordIn, behind}
 use Rattle.map_read.proofs.Right.{lent-table}
 
 -- what the two calls leave of a store
-pub cleared : {N : ℕ} {s t : List ℕ} {r : Did} → StoreOf N s → Settled didPaper (clearOf s) r t → t ≡ empty N
+pub store-cleared : {N : ℕ} {s t : List ℕ} {r : Did} → StoreOf N s → Settled didPaper (clearOf s) r t → t ≡ empty N
 unfolding clearOf
-cleared {N} {s} {t} z c = let e : clearOf s ≡ does (empty N) = rw (is-store z, z .names) in c .memory ∙ ap (λ (o : Outcome (List ℕ)). o .lent) e
+store-cleared {N} {s} {t} z c = let e : clearOf s ≡ does (empty N) = rw (is-store z, z .names) in c .memory ∙ ap (λ (o : Outcome (List ℕ)). o .lent) e
 
 pub rebuilt : {N : ℕ} {s t : List ℕ} {r : Did} → StoreOf N s → Settled didPaper (rebuildOf s) r t → t ≡ build N (layer0 N s)
 unfolding rebuildOf
@@ -34,14 +34,14 @@ drop-zeros zero n = let e : n ≡ n - 0 = omega arith in ap (λ (k : ℕ). repli
 drop-zeros (suc a) zero = let e : 0 ≡ 0 - suc a = omega arith in ap (λ (k : ℕ). replicate {A = ℕ} k 0) e
 drop-zeros (suc a) (suc n) = let e : n - a ≡ suc n - suc a = omega arith in drop-zeros a n ∙ ap (λ (k : ℕ). replicate {A = ℕ} k 0) e
 
-pub length-fill : (ws : List ℕ) (n : ℕ) (t : List ℕ) → length (fill ws n t) ≡ length ws
-unfolding fill
+pub length-fill : (ws : List ℕ) (n : ℕ) (t : List ℕ) → length (fillTable ws n t) ≡ length ws
+unfolding fillTable
 length-fill ws zero t = refl
 length-fill ws (suc n) t = length-fill (set ws (numberIn t) (wordIn t)) n (behind t) ∙ length-set ws (numberIn t) (wordIn t)
 
 -- ---- layer 0 of a cleared store, lent from a to e, and back
 
-module _ {N : ℕ} {s : List ℕ} (z : StoreOf N s) {a : ℕ} (start : a ≡ endOf N 1) where
+module _ {N : ℕ} {s : List ℕ} (z : StoreOf N s) {a : ℕ} (start : a ≡ startFrom (length s) N 0) where
   start-is : a ≡ layerStart N 0
   start-is = start ∙ part z 0 (omega arith) .starts
 
@@ -65,11 +65,11 @@ module _ {N : ℕ} {s : List ℕ} (z : StoreOf N s) {a : ℕ} (start : a ≡ end
         left = omega (arith, size, z .long, start-is, after-header N 1)
 
     -- the words of a map that was laid over it
-    pub laid : (m : List ℕ) {u : ℕ} {ys : List ℕ} → u ≡ usedIn m → ys ≡ fill (midOf a (length s - a) s) u (take (length m - 16) (drop 16 m)) → ys ≡ wordsOf N m
-    unfolding wordsOf
+    pub laid : (m : List ℕ) {u : ℕ} {ys : List ℕ} → u ≡ usedIn m → ys ≡ fillTable (midOf a (length s - a) s) u (take (length m - 16) (drop 16 m)) → ys ≡ mapWords N m
+    unfolding mapWords
     laid m {u} {ys} eu ey =
-        ey ∙ ap₂ (λ (ws : List ℕ) (n : ℕ). fill ws n (take (length m - 16) (drop 16 m))) lent-zeros eu
-        ∙ ap (fill (replicate (layerLen N 0) 0) (usedIn m)) (lent-table m)
+        ey ∙ ap₂ (λ (ws : List ℕ) (n : ℕ). fillTable ws n (take (length m - 16) (drop 16 m))) lent-zeros eu
+        ∙ ap (fillTable (replicate (layerLen N 0) 0) (usedIn m)) (lent-table m)
 
   module _ (ys : List ℕ) (long : length ys ≡ layerLen N 0) where
     front : length (take a s) ≡ a
@@ -95,6 +95,6 @@ module _ {N : ℕ} {s : List ℕ} (z : StoreOf N s) {a : ℕ} (start : a ≡ end
               ∙ getD-take a s 0 0 (omega (arith, start-is, after-header N 1)) ∙ z .names;
         }
 
-pub length-words : (N : ℕ) (m : List ℕ) → length (wordsOf N m) ≡ layerLen N 0
-unfolding wordsOf
-length-words N m = length-fill (replicate (layerLen N 0) 0) (usedIn m) (table m) ∙ length-replicate {A = ℕ} (layerLen N 0) 0
+pub length-words : (N : ℕ) (m : List ℕ) → length (mapWords N m) ≡ layerLen N 0
+unfolding mapWords
+length-words N m = length-fill (replicate (layerLen N 0) 0) (usedIn m) (tableIn m) ∙ length-replicate {A = ℕ} (layerLen N 0) 0

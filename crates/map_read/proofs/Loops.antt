@@ -11,8 +11,8 @@ use lib.Seq.{drop-drop}
 use Rattle.util.specs.Word.{count}
 use Rattle.util.proofs.Count.{count-ones}
 use Rattle.map_format.specs.Bytes.{num, numAt}
-use Rattle.map_format.proofs.Numbers.{more, pow-at-most, num-at-suc}
-use Rattle.map_read.specs.Judge.{numberIn, wordIn, behind, entryOk, good, total, fill}
+use Rattle.map_format.proofs.Numbers.{byte-more, pow-at-most, num-at-suc}
+use Rattle.map_read.specs.Judge.{numberIn, wordIn, behind, entryOk, good, total, fillTable}
 use Rattle.map_read.specs.Steps.{tableOf}
 use Rattle.map_read.proofs.Right.{table-10}
 
@@ -40,7 +40,7 @@ module _ {s : List ℕ} {o n i x : ℕ} (h : Got s o n i x) where
       record {
         upto = omega (arith, h .upto);
         so-far = rw e (omega arith);
-        small = rw e (more (n - i) x (getD s (o + (i - 1)) 0) (h .small) b);
+        small = rw e (byte-more (n - i) x (getD s (o + (i - 1)) 0) (h .small) b);
       }
 
   pub got-end : i ≤ 0 → x ≡ numAt o n s
@@ -82,12 +82,12 @@ module _ {t : List ℕ} {n j q w : ℕ} (e : Entry t n j q w) where
       ap (λ (m : ℕ). total m (drop (12 * j) t)) less
       ∙ ap₂ (λ (x : ℕ) (l : List ℕ). count x + total (n - suc j) l) word-is (next-entry t j)
 
-  fill-turn : (ws : List ℕ) → fill ws (n - j) (drop (12 * j) t) ≡ fill (set ws q w) (n - suc j) (drop (12 * suc j) t)
-  unfolding fill
+  fill-turn : (ws : List ℕ) → fillTable ws (n - j) (drop (12 * j) t) ≡ fillTable (set ws q w) (n - suc j) (drop (12 * suc j) t)
+  unfolding fillTable
   fill-turn ws =
-      ap (λ (m : ℕ). fill ws m (drop (12 * j) t)) less
-      ∙ ap (λ (l : List ℕ). fill (set ws (numberIn (drop (12 * j) t)) (wordIn (drop (12 * j) t))) (n - suc j) l) (next-entry t j)
-      ∙ ap₂ (λ (x y : ℕ). fill (set ws x y) (n - suc j) (drop (12 * suc j) t)) (sym (e .number)) word-is
+      ap (λ (m : ℕ). fillTable ws m (drop (12 * j) t)) less
+      ∙ ap (λ (l : List ℕ). fillTable (set ws (numberIn (drop (12 * j) t)) (wordIn (drop (12 * j) t))) (n - suc j) l) (next-entry t j)
+      ∙ ap₂ (λ (x y : ℕ). fillTable (set ws x y) (n - suc j) (drop (12 * suc j) t)) (sym (e .number)) word-is
 
 -- ---- the entries looked at
 
@@ -134,16 +134,16 @@ module _ {t : List ℕ} {N n lo s j : ℕ} (h : Judged t N n lo s j) where
 
 -- ---- the words put at their places
 
-pub record Placed (ws₀ t : List ℕ) (n : ℕ) (ws : List ℕ) (j : ℕ) : Type 0 where
+pub record Entered (ws₀ t : List ℕ) (n : ℕ) (ws : List ℕ) (j : ℕ) : Type 0 where
   pub upto : j ≤ n
   pub long : length ws ≡ length ws₀
-  pub rest : fill ws (n - j) (drop (12 * j) t) ≡ fill ws₀ n t
+  pub rest : fillTable ws (n - j) (drop (12 * j) t) ≡ fillTable ws₀ n t
 
-pub placed-start : {ws t : List ℕ} {n : ℕ} → Placed ws t n ws 0
+pub placed-start : {ws t : List ℕ} {n : ℕ} → Entered ws t n ws 0
 placed-start {ws} {t} {n} = record { upto = omega arith; long = refl; rest = rw sub-zero }
 
-module _ {ws₀ t : List ℕ} {n : ℕ} {ws : List ℕ} {j : ℕ} (h : Placed ws₀ t n ws j) where
-  pub placed-turn : {q w : ℕ} → Entry t n j q w → (ws′ : List ℕ) → ws′ ≡ set ws q w → Placed ws₀ t n ws′ (j + 1)
+module _ {ws₀ t : List ℕ} {n : ℕ} {ws : List ℕ} {j : ℕ} (h : Entered ws₀ t n ws j) where
+  pub placed-turn : {q w : ℕ} → Entry t n j q w → (ws′ : List ℕ) → ws′ ≡ set ws q w → Entered ws₀ t n ws′ (j + 1)
   placed-turn {q} {w} e ws′ is =
       let b : j + 1 ≡ suc j = omega arith in
       rw (b, is) (record {
@@ -152,6 +152,6 @@ module _ {ws₀ t : List ℕ} {n : ℕ} {ws : List ℕ} {j : ℕ} (h : Placed ws
         rest = sym (fill-turn e ws) ∙ h .rest;
       })
 
-  pub placed-end : n ≤ j → ws ≡ fill ws₀ n t
-  unfolding fill
-  placed-end l = let e : n - j ≡ 0 = omega (arith, h .upto) in sym (ap (λ (m : ℕ). fill ws m (drop (12 * j) t)) e) ∙ h .rest
+  pub placed-end : n ≤ j → ws ≡ fillTable ws₀ n t
+  unfolding fillTable
+  placed-end l = let e : n - j ≡ 0 = omega (arith, h .upto) in sym (ap (λ (m : ℕ). fillTable ws m (drop (12 * j) t)) e) ∙ h .rest

@@ -13,17 +13,14 @@ use lib.Seq.{take-all}
 use Rattle.util.proofs.Same.{both}
 use Rattle.store.specs.Build.{room0}
 use Rattle.store.specs.Layout.{maxCap, isCap, layerLen}
-use Rattle.map_read.specs.Judge.{capIn, countIn, usedIn, offsetIn, table, headOk, entryOk, good, total, judgeOf}
+use Rattle.store.proofs.Ends.{cap-in}
+use Rattle.map_read.specs.Judge.{capIn, countIn, usedIn, offsetIn, tableIn, headOk, entryOk, good, total, judgeOf}
 use Rattle.map_read.specs.Steps.{Table, tableOf}
 
 -- what is not true is false
 refute : (b : Bool) {P : Type 0} → (b ≡ true → P) → (P → ⊥) → b ≡ false
 refute true f g = absurd (g (f refl))
 refute false f g = refl
-
-pub cap-most : {N : ℕ} → isCap N ≡ true → (1 ≤ N) × (N ≤ maxCap)
-unfolding isCap
-cap-most {N} h = let b = both (leb 1 N) (leb N maxCap) h in (leb-true 1 N (b .0), leb-true N maxCap (b .1))
 
 -- ---- the header
 
@@ -105,7 +102,7 @@ module _ (m : List ℕ) (N : ℕ) where
     judge-5 e = rw (h, ne-eqb (capIn m) N e)
 
     -- past them it is the table's
-    pub judge-table : capIn m ≡ N → judgeOf m N ≡ tableOf N (usedIn m) (countIn m) (table m)
+    pub judge-table : capIn m ≡ N → judgeOf m N ≡ tableOf N (usedIn m) (countIn m) (tableIn m)
     unfolding judgeOf tableOf
     judge-table e = rw (h, eq-eqb (capIn m) N e)
 
@@ -124,37 +121,38 @@ module _ (N n m : ℕ) (t : List ℕ) where
 
 -- ---- a map that nothing is wrong with
 
-pub record Accepted (m : List ℕ) (N : ℕ) : Type 0 where
+pub record MapTaken (m : List ℕ) (N : ℕ) : Type 0 where
   pub head : HeadIs m
   pub same : capIn m ≡ N
-  pub all-good : good N 0 (usedIn m) (table m) ≡ true
-  pub counts : total (usedIn m) (table m) ≡ countIn m
+  pub all-good : good N 0 (usedIn m) (tableIn m) ≡ true
+  pub counts : total (usedIn m) (tableIn m) ≡ countIn m
 
-pub accepted-0 : {m : List ℕ} {N : ℕ} → Accepted m N → judgeOf m N ≡ 0
+pub accepted-0 : {m : List ℕ} {N : ℕ} → MapTaken m N → judgeOf m N ≡ 0
 accepted-0 {m} {N} a =
-    judge-table m N (is-head (a .head)) (a .same) ∙ sym (table-0 N (usedIn m) (countIn m) (table m) (a .all-good) (a .counts))
+    judge-table m N (is-head (a .head)) (a .same) ∙ sym (table-0 N (usedIn m) (countIn m) (tableIn m) (a .all-good) (a .counts))
 
-pub accepted : {m : List ℕ} {N : ℕ} → judgeOf m N ≡ 0 → Accepted m N
-accepted {m} {N} z =
-    go (headOk m) refl (ℕ-discrete (capIn m) N) (good N 0 (usedIn m) (table m)) refl (ℕ-discrete (total (usedIn m) (table m)) (countIn m))
+pub map-taken : {m : List ℕ} {N : ℕ} → judgeOf m N ≡ 0 → MapTaken m N
+map-taken {m} {N} z =
+    go (headOk m) refl (ℕ-discrete (capIn m) N) (good N 0 (usedIn m) (tableIn m)) refl (ℕ-discrete (total (usedIn m) (tableIn m)) (countIn m))
   where
-    go : (h : Bool) → headOk m ≡ h → Dec (capIn m ≡ N) → (g : Bool) → good N 0 (usedIn m) (table m) ≡ g
-        → Dec (total (usedIn m) (table m) ≡ countIn m) → Accepted m N
+    go : (h : Bool) → headOk m ≡ h → Dec (capIn m ≡ N) → (g : Bool) → good N 0 (usedIn m) (tableIn m) ≡ g
+        → Dec (total (usedIn m) (tableIn m) ≡ countIn m) → MapTaken m N
     go false eh d g eg t = absurd (omega (arith, sym z ∙ judge-9 m N eh))
     go true eh (no d) g eg t = absurd (omega (arith, sym z ∙ judge-5 m N eh d))
-    go true eh (yes d) false eg t = absurd (omega (arith, sym z ∙ judge-table m N eh d, table-10 N (usedIn m) (countIn m) (table m) eg))
-    go true eh (yes d) true eg (no t) = absurd (omega (arith, sym z ∙ judge-table m N eh d, table-11 N (usedIn m) (countIn m) (table m) eg t))
+    go true eh (yes d) false eg t = absurd (omega (arith, sym z ∙ judge-table m N eh d, table-10 N (usedIn m) (countIn m) (tableIn m) eg))
+    go true eh (yes d) true eg (no t) = absurd (omega (arith, sym z ∙ judge-table m N eh d, table-11 N (usedIn m) (countIn m) (tableIn m) eg t))
     go true eh (yes d) true eg (yes t) = record { head = head-is eh; same = d; all-good = eg; counts = t }
 
 -- ---- the table, as the code lends it on
 
-pub lent-table : (m : List ℕ) → take (length m - 16) (drop 16 m) ≡ table m
+pub lent-table : (m : List ℕ) → take (length m - 16) (drop 16 m) ≡ tableIn m
 lent-table m = take-all (length m - 16) (drop 16 m) (omega (arith, length-drop 16 m))
 
 pub table-there : {m : List ℕ} {N u : ℕ} → HeadIs m → capIn m ≡ N → u ≡ usedIn m → Table N u (take (length m - 16) (drop 16 m))
 table-there {m} {N} {u} h e q =
     record {
-      most = subst (λ (x : ℕ). x ≤ maxCap) e (cap-most (h .capacity) .1);
+      some = subst (λ (x : ℕ). 1 ≤ x) e (cap-in (capIn m) (h .capacity) .0);
+      most = subst (λ (x : ℕ). x ≤ maxCap) e (cap-in (capIn m) (h .capacity) .1);
       few = rw q (subst (λ (x : ℕ). usedIn m ≤ layerLen x 0) e (h .few));
       long = omega (arith, h .table, q, ap length (lent-table m), length-drop 16 m);
     }

@@ -23,8 +23,8 @@ abbrev pub offsetIn : List ℕ → ℕ
 offsetIn m = numAt 12 4 m
 
 -- "Then W entries of 12 bytes": the table starts behind the header
-abbrev pub table : List ℕ → List ℕ
-table m = drop 16 m
+abbrev pub tableIn : List ℕ → List ℕ
+tableIn m = drop 16 m
 
 -- the first entry of a table: "layer-0 word number (32-bit), word (64-bit)", and the entries behind it
 abbrev pub numberIn : List ℕ → ℕ
@@ -67,17 +67,17 @@ unfoldable pub judgeOf : List ℕ → ℕ → ℕ
 judgeOf m N =
     cond (headOk m)
     (cond (eqb (capIn m) N)
-    (cond (good N 0 (usedIn m) (table m))
-    (cond (eqb (total (usedIn m) (table m)) (countIn m)) 0 11)
+    (cond (good N 0 (usedIn m) (tableIn m))
+    (cond (eqb (total (usedIn m) (tableIn m)) (countIn m)) 0 11)
     10)
     5)
     9
 
 -- ws with the words of n entries at their numbers
-unfoldable pub fill : List ℕ → ℕ → List ℕ → List ℕ
-fill ws zero t = ws
-fill ws (suc n) t = fill (set ws (numberIn t) (wordIn t)) n (behind t)
+unfoldable pub fillTable : List ℕ → ℕ → List ℕ → List ℕ
+fillTable ws zero t = ws
+fillTable ws (suc n) t = fillTable (set ws (numberIn t) (wordIn t)) n (behind t)
 
 -- the layer-0 words that the map m tells of a store of capacity N
-unfoldable pub wordsOf : ℕ → List ℕ → List ℕ
-wordsOf N m = fill (replicate (layerLen N 0) 0) (usedIn m) (table m)
+unfoldable pub mapWords : ℕ → List ℕ → List ℕ
+mapWords N m = fillTable (replicate (layerLen N 0) 0) (usedIn m) (tableIn m)

@@ -10,6 +10,7 @@ use Rattle.map_read.specs.Judge.{good, total, judgeOf}
 
 -- a table of n entries for capacity N stands at the start of t
 pub record Table (N n : ℕ) (t : List ℕ) : Type 0 where
+  pub some : 1 ≤ N
   pub most : N ≤ maxCap
   pub few : n ≤ layerLen N 0
   pub long : 12 * n ≤ length t

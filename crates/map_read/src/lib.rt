@@ -7,10 +7,17 @@ ghost use Rattle.store.specs.Answer.{didPaper};
 ghost use Rattle.store.specs.Build.{build};
 ghost use Rattle.store.specs.Layout.{maxCap};
 ghost use Rattle.map_format.specs.Bytes.{numAt};
-ghost use Rattle.map_read.specs.Calls.{readOf};
-ghost use Rattle.map_read.specs.Judge.{headOk, entryOk, judgeOf, fill, wordsOf};
+ghost use Rattle.map_read.specs.Answer.{mapForPaper};
+ghost use Rattle.map_read.specs.Calls.{mapCapacityOf, readOf};
+ghost use Rattle.map_read.specs.Judge.{headOk, entryOk, judgeOf, fillTable, mapWords};
 ghost use Rattle.map_read.specs.Steps.{Table, tableOf, Replaces};
 use store::Did;
+
+// The capacity of the stores that a map is for, or the refusal's number.
+pub enum MapFor {
+    Capacity(usize),
+    Refused(u32),
+}
 
 // The number in the n bytes at o, at most 8, lowest first.
 fn get(map: &[u8], o: usize, n: usize) -> u64
@@ -43,7 +50,7 @@ fn head_ok(map: &[u8]) -> bool
     if offset != 16 {
         return false;
     }
-    if listed > (n + 63) / 64 {
+    if listed > store::words_for(n) {
         return false;
     }
     16 + 12 * listed <= map.len()
@@ -51,13 +58,13 @@ fn head_ok(map: &[u8]) -> bool
 
 // Whether word x may stand at number q in a map of capacity n, the numbers below lo being used up.
 fn entry_ok(n: usize, lo: usize, q: usize, x: u64) -> bool
-    requires { ⌜ n ≤ maxCap ⌝ }
+    requires { ⌜ (1 ≤ n) × (n ≤ maxCap) ⌝ }
     ensures { λ r. ⌜ r ≡ entryOk n lo q x ⌝ }
 {
     if q < lo {
         return false;
     }
-    if q >= (n + 63) / 64 {
+    if q >= store::words_for(n) {
         return false;
     }
     if x == 0 {
@@ -110,7 +117,7 @@ fn judge(map: &[u8], n: usize) -> u32
 // The words of the entries are put at their numbers.
 fn place(layer: &mut [u64], table: &[u8], used: usize)
     requires { ⌜ 12 * used ≤ length (now table) ⌝ }
-    ensures { λ r. ⌜ now (layer .exit) ≡ fill (now (layer .entry)) used (now (table .entry)) ⌝ }
+    ensures { λ r. ⌜ now (layer .exit) ≡ fillTable (now (layer .entry)) used (now (table .entry)) ⌝ }
 {
     let mut j = 0usize;
     while j < used {
@@ -125,14 +132,25 @@ fn place(layer: &mut [u64], table: &[u8], used: usize)
 // Every layer is replaced by what a right map tells: layer 0 from nothing, and the summaries that it asks.
 fn replace(map: &[u8], store: &mut [u64], n: usize)
     requires { ⌜ Replaces (now map) (now store) n ⌝ }
-    ensures { λ r. ⌜ now (store .exit) ≡ build n (wordsOf n (now (map .entry))) ⌝ }
+    ensures { λ r. ⌜ now (store .exit) ≡ build n (mapWords n (now (map .entry))) ⌝ }
 {
     set_whole::clear(store);
     let used = get(map, 8, 4) as usize;
-    let a = store::end(n, 1);
+    let a = store::start(store.len(), n, 0);
     let e = store.len();
     place(&mut store[a..e], &map[16..], used);
     summary::rebuild(store);
+}
+
+// The capacity that a map names. Its header alone is looked at: for a store of that capacity the entries may still be refused.
+pub fn capacity(map: &[u8]) -> MapFor
+    ensures { λ r. ⌜ Settled mapForPaper (mapCapacityOf (now (map .entry))) r tt ⌝ }
+{
+    if !head_ok(map) {
+        return MapFor::Refused(9);
+    }
+    let named = get(map, 0, 4) as usize;
+    MapFor::Capacity(named)
 }
 
 // Replaces a store's members by those of a map of its capacity.

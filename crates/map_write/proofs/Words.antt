@@ -7,12 +7,12 @@ use native.Mathlib.Omega.{arith}
 use lib.ListN.{length, getD, take}
 use lib.Pow.{pow-pos}
 use Rattle.store.specs.Build.{room0, Kept}
+use Rattle.store.specs.Layout.{room, layerLen}
 use Rattle.store.specs.Word.{Words64}
-use Rattle.map_format.specs.Steps.{ended}
+use Rattle.map_format.specs.Steps.{withLast}
 use Rattle.map_format.proofs.Cut.{cut-none}
-use Rattle.map_format.proofs.Used.{ended-is}
+use Rattle.map_format.proofs.Used.{with-last-is}
 use Rattle.map_write.specs.Map.{keptFrom}
-use Rattle.map_write.specs.Steps.{LayerOf}
 
 -- ---- the words from number q on
 
@@ -58,13 +58,15 @@ kept-end N q w (v ∷ ws) h small =
     (kept-end N (suc q) v ws g (λ x. small (suc x))
     ∙ ap (λ (k : ℕ). take (length ws) (v ∷ ws) ++ getD (v ∷ ws) (length ws) 0 % 2 ^ room0 N k ∷ []) e)
 
-pub kept-ended : (N : ℕ) (ws : List ℕ) → LayerOf N ws → Words64 ws → ended ws (getD ws (length ws - 1) 0 % 2 ^ room0 N (length ws - 1)) ≡ keptFrom N 0 ws
-kept-ended N [] z small = absurd (omega (arith, z .long, z .some))
-kept-ended N (w ∷ ws) z small =
+pub kept-with-last : (N : ℕ) (ws : List ℕ) → 1 ≤ N → length ws ≡ layerLen N 0 → Words64 ws
+    → withLast ws (getD ws (length ws - 1) 0 % 2 ^ room0 N (length ws - 1)) ≡ keptFrom N 0 ws
+unfolding room
+kept-with-last N [] some long small = absurd (omega arith)
+kept-with-last N (w ∷ ws) some long small =
     let e : length (w ∷ ws) - 1 ≡ length ws = omega arith in
-    let g : 64 * (0 + length ws) ≤ N = omega (arith, z .long) in
+    let g : 64 * (0 + length ws) ≤ N = omega arith in
     let f : length ws ≡ 0 + length ws = omega arith in
-    ended-is (w ∷ ws) (getD (w ∷ ws) (length (w ∷ ws) - 1) 0 % 2 ^ room0 N (length (w ∷ ws) - 1)) (omega arith)
+    with-last-is (w ∷ ws) (getD (w ∷ ws) (length (w ∷ ws) - 1) 0 % 2 ^ room0 N (length (w ∷ ws) - 1)) (omega arith)
     ∙ ap (λ (k : ℕ). take k (w ∷ ws) ++ getD (w ∷ ws) k 0 % 2 ^ room0 N k ∷ []) e
     ∙ ap (λ (k : ℕ). take (length ws) (w ∷ ws) ++ getD (w ∷ ws) (length ws) 0 % 2 ^ room0 N k ∷ []) f
     ∙ sym (kept-end N 0 w ws g small)

@@ -15,8 +15,8 @@ keptFrom N q [] = []
 keptFrom N q (w ∷ ws) = w % 2 ^ room0 N q ∷ keptFrom N (suc q) ws
 
 -- the words that a store s of capacity N has to tell of
-abbrev pub wordsIn : ℕ → List ℕ → List ℕ
-wordsIn N s = keptFrom N 0 (layer0 N s)
+abbrev pub toldWords : ℕ → List ℕ → List ℕ
+toldWords N s = keptFrom N 0 (layer0 N s)
 
 -- "member count": the set bits of all words
 unfoldable pub countAll : List ℕ → ℕ

@@ -6,11 +6,11 @@ ghost use lib.ListN.{length};
 ghost use lib.Seq.{sets};
 ghost use Rattle.util.specs.Outcome.{Settled};
 ghost use Rattle.map_format.specs.Bytes.{le};
-ghost use Rattle.map_format.specs.Steps.{ended};
+ghost use Rattle.map_format.specs.Steps.{withLast};
 ghost use Rattle.map_write.specs.Answer.{wrotePaper};
-ghost use Rattle.map_write.specs.Calls.{writeOf};
+ghost use Rattle.map_write.specs.Calls.{mapLengthOf, writeOf};
 ghost use Rattle.map_write.specs.Map.{headOf, mapOf, mapLen};
-ghost use Rattle.map_write.specs.Steps.{part, Room, Rooms, Fits, Entered};
+ghost use Rattle.map_write.specs.Steps.{wordsFrom, draftAt, draftTo, Room, Rooms, EntryFits, Entered};
 
 // The length of the map, or the refusal's number.
 pub enum Wrote {
@@ -19,7 +19,7 @@ pub enum Wrote {
 }
 
 // The n low bytes of x stand from o on, lowest first.
-fn put(buf: &mut [u8], o: usize, n: usize, x: u64)
+fn put_number(buf: &mut [u8], o: usize, n: usize, x: u64)
     requires { ⌜ o + n ≤ length (now buf) ⌝ }
     ensures { λ r. ⌜ now (buf .exit) ≡ sets (now (buf .entry)) o (le n x) ⌝ }
 {
@@ -41,14 +41,14 @@ struct Spot {
 
 // The entry of word q stands from o on, if the word is not zero, and its members are counted.
 fn put_entry(buf: &mut [u8], o: usize, q: usize, x: u64, members: u64) -> Spot
-    requires { ⌜ Room o (x ∷ []) members (now buf) ⌝ }
-    ensures { λ r. ⌜ Entered q (x ∷ []) o members (now (buf .entry)) (r .at) (r .members) (now (buf .exit)) ⌝ }
+    requires { ⌜ Room (x ∷ []) (draftAt o members (now buf)) ⌝ }
+    ensures { λ r. ⌜ Entered q (x ∷ []) (draftAt o members (now (buf .entry))) (draftTo r (now (buf .exit))) ⌝ }
 {
     if x == 0 {
         return Spot { at: o, members };
     }
-    put(buf, o, 4, q as u64);
-    put(buf, o + 4, 8, x);
+    put_number(buf, o, 4, q as u64);
+    put_number(buf, o + 4, 8, x);
     let sum = members + u64::count_ones(x) as u64;
     let at = o + 12;
     Spot { at, members: sum }
@@ -56,8 +56,8 @@ fn put_entry(buf: &mut [u8], o: usize, q: usize, x: u64, members: u64) -> Spot
 
 // The entries of the n words from q on.
 fn put_entries(layer: &[u64], q: usize, n: usize, buf: &mut [u8], at: usize, sum: u64) -> Spot
-    requires { ⌜ Rooms (now layer) q n at sum (now buf) ⌝ }
-    ensures { λ r. ⌜ Entered q (part q n (now (layer .entry))) at sum (now (buf .entry)) (r .at) (r .members) (now (buf .exit)) ⌝ }
+    requires { ⌜ Rooms (now layer) q n (draftAt at sum (now buf)) ⌝ }
+    ensures { λ r. ⌜ Entered q (wordsFrom q n (now (layer .entry))) (draftAt at sum (now (buf .entry))) (draftTo r (now (buf .exit))) ⌝ }
 {
     let mut members = sum;
     let mut o = at;
@@ -72,10 +72,10 @@ fn put_entries(layer: &[u64], q: usize, n: usize, buf: &mut [u8], at: usize, sum
     Spot { at: o, members }
 }
 
-// The same of four words. Where they are zero together none is looked at alone.
+// The entries of the four words from q on. Where they are zero together none is looked at alone.
 fn put_four(layer: &[u64], q: usize, buf: &mut [u8], o: usize, members: u64) -> Spot
-    requires { ⌜ Rooms (now layer) q 4 o members (now buf) ⌝ }
-    ensures { λ r. ⌜ Entered q (part q 4 (now (layer .entry))) o members (now (buf .entry)) (r .at) (r .members) (now (buf .exit)) ⌝ }
+    requires { ⌜ Rooms (now layer) q 4 (draftAt o members (now buf)) ⌝ }
+    ensures { λ r. ⌜ Entered q (wordsFrom q 4 (now (layer .entry))) (draftAt o members (now (buf .entry))) (draftTo r (now (buf .exit))) ⌝ }
 {
     if layer[q] | layer[q + 1] | layer[q + 2] | layer[q + 3] == 0 {
         return Spot { at: o, members };
@@ -85,8 +85,8 @@ fn put_four(layer: &[u64], q: usize, buf: &mut [u8], o: usize, members: u64) -> 
 
 // The entries of the first words, four a turn, behind the header's place.
 fn put_fours(layer: &[u64], fours: usize, buf: &mut [u8]) -> Spot
-    requires { ⌜ Rooms (now layer) 0 (4 * fours) 16 0 (now buf) ⌝ }
-    ensures { λ r. ⌜ Entered 0 (part 0 (4 * fours) (now (layer .entry))) 16 0 (now (buf .entry)) (r .at) (r .members) (now (buf .exit)) ⌝ }
+    requires { ⌜ Rooms (now layer) 0 (4 * fours) (draftAt 16 0 (now buf)) ⌝ }
+    ensures { λ r. ⌜ Entered 0 (wordsFrom 0 (4 * fours) (now (layer .entry))) (draftAt 16 0 (now (buf .entry))) (draftTo r (now (buf .exit))) ⌝ }
 {
     let mut members = 0u64;
     let mut o = 16usize;
@@ -105,17 +105,17 @@ fn put_head(buf: &mut [u8], n: u64, members: u64, used: u64)
     requires { ⌜ 16 ≤ length (now buf) ⌝ }
     ensures { λ r. ⌜ now (buf .exit) ≡ sets (now (buf .entry)) 0 (headOf n members used) ⌝ }
 {
-    put(buf, 0, 4, n);
-    put(buf, 4, 4, members);
-    put(buf, 8, 4, used);
-    put(buf, 12, 4, 16);
+    put_number(buf, 0, 4, n);
+    put_number(buf, 4, 4, members);
+    put_number(buf, 8, 4, used);
+    put_number(buf, 12, 4, 16);
 }
 
 // The entries of all words, and then the header in front of them; where the last one ends.
 fn put_map(layer: &[u64], last: u64, n: usize, buf: &mut [u8]) -> usize
-    requires { ⌜ Fits (now layer) last (now buf) ⌝ }
-    ensures length { λ r. ⌜ r ≡ mapLen (ended (now (layer .entry)) last) ⌝ }
-    ensures bytes { λ r. ⌜ now (buf .exit) ≡ sets (now (buf .entry)) 0 (mapOf n (ended (now (layer .entry)) last)) ⌝ }
+    requires { ⌜ EntryFits (now layer) last (now buf) ⌝ }
+    ensures length { λ r. ⌜ r ≡ mapLen (withLast (now (layer .entry)) last) ⌝ }
+    ensures bytes { λ r. ⌜ now (buf .exit) ≡ sets (now (buf .entry)) 0 (mapOf n (withLast (now (layer .entry)) last)) ⌝ }
 {
     let end = layer.len() - 1;
     let fours = end / 4;
@@ -127,6 +127,20 @@ fn put_map(layer: &[u64], last: u64, n: usize, buf: &mut [u8]) -> usize
     s.at
 }
 
+// How long the map of a store's members is: what `write` answers where the buffer has room, on an unsound store too.
+pub fn length(store: &[u64]) -> Wrote
+    ensures { λ r. ⌜ Settled wrotePaper (mapLengthOf (now (store .entry))) r tt ⌝ }
+{
+    let n = store::capacity(store);
+    if n == 0 {
+        return Wrote::Refused(2);
+    }
+    let start = store::start(store.len(), n, 0);
+    let layer = &store[start..];
+    let cut = map_format::kept_word(layer, n, layer.len() - 1);
+    Wrote::Length(map_format::map_length(layer, cut))
+}
+
 // Writes the map of a store's members over the front of buf. Layer 0 alone is read, so the map is right on an unsound store too.
 pub fn write(store: &[u64], buf: &mut [u8]) -> Wrote
     ensures { λ r. ⌜ Settled wrotePaper (writeOf (now (store .entry)) (now (buf .entry))) r (now (buf .exit)) ⌝ }
@@ -135,9 +149,10 @@ pub fn write(store: &[u64], buf: &mut [u8]) -> Wrote
     if n == 0 {
         return Wrote::Refused(2);
     }
-    let layer = &store[store.len() - (n + 63) / 64..];
-    let last = map_format::kept_word(layer, n, (n - 1) / 64);
-    if !map_format::has_room(layer, last, buf.len()) {
+    let start = store::start(store.len(), n, 0);
+    let layer = &store[start..];
+    let last = map_format::kept_word(layer, n, layer.len() - 1);
+    if !map_format::map_fits(layer, last, buf.len()) {
         return Wrote::Refused(8);
     }
     let end = put_map(layer, last, n, buf);

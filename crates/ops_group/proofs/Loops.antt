@@ -17,7 +17,7 @@ use Rattle.util.proofs.Same.{both}
 use Rattle.store.specs.Build.{flag, flags}
 use Rattle.store.proofs.Build.{flags-lt, bit-flags}
 use Rattle.ops_word.specs.Op.{opWord}
-use Rattle.ops_group.specs.Group.{named, marked, all, isDense, wordsOf, overOf, Merging, Naming}
+use Rattle.ops_group.specs.Group.{mergeNamed, markNamed, all, isDense, groupWords, groupOver, Merging, Naming}
 use Rattle.ops_group.proofs.Named.{length-named, named-op, named-here, named-off, marked-on, marked-off, marked-lt, bit-all}
 
 -- ---- every word merged
@@ -44,9 +44,9 @@ merging-turn {op} {xs} {ys} {zs} {t} {x} full l v is =
         ∙ sym (ap (λ (y : ℕ). opWord op (getD xs y 0) (getD ys y 0)) p)
     new i h (no n) = getD-set-other zs t i x 0 n ∙ v .new i (omega arith)
 
-pub merging-end : {op : ℕ} {xs ys zs : List ℕ} {t : ℕ} → length xs ≡ 64 → 64 ≤ t → Merging op xs ys zs t → zs ≡ named op all 0 xs ys
+pub merging-end : {op : ℕ} {xs ys zs : List ℕ} {t : ℕ} → length xs ≡ 64 → 64 ≤ t → Merging op xs ys zs t → zs ≡ mergeNamed op all 0 xs ys
 merging-end {op} {xs} {ys} {zs} {t} full h v =
-    ext-getD 0 zs (named op all 0 xs ys) (v .long ∙ sym (length-named op all 0 xs ys))
+    ext-getD 0 zs (mergeNamed op all 0 xs ys) (v .long ∙ sym (length-named op all 0 xs ys))
     (λ i l.
     let j : i < 64 = omega (arith, v .long) in
     v .new i (omega arith) ∙ sym (named-here op all xs ys i (omega (arith, v .long)) (bit-all i j)))
@@ -57,9 +57,9 @@ pub flags-whole : (l : List ℕ) {w : ℕ} → length l ≡ 64 → w ≡ flags (
 flags-whole l {w} full e = e ∙ ap flags (take-all 64 l (omega arith))
 
 -- the word above a group that was merged whole
-pub marked-all : (zs : List ℕ) (w : ℕ) → length zs ≡ 64 → marked all zs w ≡ flags zs
+pub marked-all : (zs : List ℕ) (w : ℕ) → length zs ≡ 64 → markNamed all zs w ≡ flags zs
 marked-all zs w full =
-    word-ext (marked all zs w) (flags zs) (marked-lt all zs w (omega arith)) (subst (λ (n : ℕ). flags zs < 2 ^ n) full (flags-lt zs))
+    word-ext (markNamed all zs w) (flags zs) (marked-lt all zs w (omega arith)) (subst (λ (n : ℕ). flags zs < 2 ^ n) full (flags-lt zs))
     (λ i h. marked-on all zs w i (omega arith) h (bit-all i h) ∙ sym (bit-flags zs i))
 
 -- ---- the words that are named, one by one
@@ -106,16 +106,16 @@ module _ {op : ℕ} {xs ys : List ℕ} {w m : ℕ} {zs : List ℕ} {v n : ℕ} (
         go (yes g) = change-other false n t l i g ne
         go (no g) = bit-high 64 n' i few' (omega arith) ∙ sym (bit-high 64 n i (h .few) (omega arith))
 
-    same-words : named op n' 0 us ys ≡ named op n 0 zs ys
+    same-words : mergeNamed op n' 0 us ys ≡ mergeNamed op n 0 zs ys
     same-words =
-        ext-getD 0 (named op n' 0 us ys) (named op n 0 zs ys) (length-named op n' 0 us ys ∙ length-set zs t x ∙ sym (length-named op n 0 zs ys))
+        ext-getD 0 (mergeNamed op n' 0 us ys) (mergeNamed op n 0 zs ys) (length-named op n' 0 us ys ∙ length-set zs t x ∙ sym (length-named op n 0 zs ys))
         (λ i g.
         let k : i < length zs = omega (arith, length-named op n' 0 us ys, length-set zs t x) in
         at i k (ℕ-discrete i t))
       where
-        at : (i : ℕ) → i < length zs → Dec (i ≡ t) → getD (named op n' 0 us ys) i 0 ≡ getD (named op n 0 zs ys) i 0
+        at : (i : ℕ) → i < length zs → Dec (i ≡ t) → getD (mergeNamed op n' 0 us ys) i 0 ≡ getD (mergeNamed op n 0 zs ys) i 0
         at i k (yes p) =
-            subst (λ (y : ℕ). getD (named op n' 0 us ys) y 0 ≡ getD (named op n 0 zs ys) y 0) (sym p)
+            subst (λ (y : ℕ). getD (mergeNamed op n' 0 us ys) y 0 ≡ getD (mergeNamed op n 0 zs ys) y 0) (sym p)
             (let g : t < length zs = omega arith in
             named-off op n' us ys t off ∙ getD-set-same zs t x 0 g ∙ sym (named-here op n zs ys t g on))
         at i k (no ne) = go (bit n i) refl
@@ -123,7 +123,7 @@ module _ {op : ℕ} {xs ys : List ℕ} {w m : ℕ} {zs : List ℕ} {v n : ℕ} (
             old : getD us i 0 ≡ getD zs i 0
             old = getD-set-other zs t i x 0 ne
 
-            go : (b : ℕ) → bit n i ≡ b → getD (named op n' 0 us ys) i 0 ≡ getD (named op n 0 zs ys) i 0
+            go : (b : ℕ) → bit n i ≡ b → getD (mergeNamed op n' 0 us ys) i 0 ≡ getD (mergeNamed op n 0 zs ys) i 0
             go zero e = named-off op n' us ys i (rest i ne ∙ e) ∙ old ∙ sym (named-off op n zs ys i e)
             go (suc b) e =
                 let o : bit n i ≡ 1 = omega (arith, bit-lt n i) in
@@ -131,23 +131,23 @@ module _ {op : ℕ} {xs ys : List ℕ} {w m : ℕ} {zs : List ℕ} {v n : ℕ} (
                 ∙ ap (λ (y : ℕ). opWord op y (getD ys i 0)) old ∙ sym (named-here op n zs ys i k o)
 
     abbrev Z : List ℕ
-    Z = named op m 0 xs ys
+    Z = mergeNamed op m 0 xs ys
 
     here : getD Z t 0 ≡ z
     here = ap (λ (q : List ℕ). getD q t 0) (sym (same-words ∙ h .words)) ∙ named-off op n' us ys t off
 
-    same-over : marked n' Z v' ≡ marked n Z v
+    same-over : markNamed n' Z v' ≡ markNamed n Z v
     same-over =
-        word-ext (marked n' Z v') (marked n Z v) (marked-lt n' Z v' few') (marked-lt n Z v (h .few)) (λ i g. at i g (ℕ-discrete i t))
+        word-ext (markNamed n' Z v') (markNamed n Z v) (marked-lt n' Z v' few') (marked-lt n Z v (h .few)) (λ i g. at i g (ℕ-discrete i t))
       where
-        at : (i : ℕ) → i < 64 → Dec (i ≡ t) → bit (marked n' Z v') i ≡ bit (marked n Z v) i
+        at : (i : ℕ) → i < 64 → Dec (i ≡ t) → bit (markNamed n' Z v') i ≡ bit (markNamed n Z v) i
         at i g (yes p) =
-            subst (λ (y : ℕ). bit (marked n' Z v') y ≡ bit (marked n Z v) y) (sym p)
+            subst (λ (y : ℕ). bit (markNamed n' Z v') y ≡ bit (markNamed n Z v) y) (sym p)
             (marked-off n' Z v' t few' l off ∙ change-same (not (eqb z 0)) v t l ∙ flag-is z ∙ ap flag (sym here)
             ∙ sym (marked-on n Z v t (h .few) l on))
         at i g (no ne) = go (bit n i) refl
           where
-            go : (b : ℕ) → bit n i ≡ b → bit (marked n' Z v') i ≡ bit (marked n Z v) i
+            go : (b : ℕ) → bit n i ≡ b → bit (markNamed n' Z v') i ≡ bit (markNamed n Z v) i
             go zero e =
                 marked-off n' Z v' i few' g (rest i ne ∙ e) ∙ change-other (not (eqb z 0)) v t l i g ne
                 ∙ sym (marked-off n Z v i (h .few) g e)
@@ -179,15 +179,15 @@ module _ {op : ℕ} {xs ys : List ℕ} {w m : ℕ} {zs : List ℕ} {v n : ℕ} (
       (subst (λ (y : ℕ). Naming op xs ys w m ts W y) (sym en)
       (subst (λ (y : List ℕ). Naming op xs ys w m y W (change false n t)) (sym ts-is) (turned t l on)))
 
-  pub naming-words : n ≡ 0 → zs ≡ named op m 0 xs ys
+  pub naming-words : n ≡ 0 → zs ≡ mergeNamed op m 0 xs ys
   naming-words e =
-      ext-getD 0 zs (named op m 0 xs ys) (h .long ∙ sym (length-named op m 0 xs ys))
+      ext-getD 0 zs (mergeNamed op m 0 xs ys) (h .long ∙ sym (length-named op m 0 xs ys))
       (λ i l. sym (named-off op n zs ys i (ap (λ (y : ℕ). bit y i) e ∙ bit-of-zero i)) ∙ ap (λ (q : List ℕ). getD q i 0) (h .words))
 
-  pub naming-over : n ≡ 0 → v ≡ marked m (named op m 0 xs ys) w
+  pub naming-over : n ≡ 0 → v ≡ markNamed m (mergeNamed op m 0 xs ys) w
   naming-over e =
-      word-ext v (marked n (named op m 0 xs ys) v) (h .small) (marked-lt n (named op m 0 xs ys) v (h .few))
-      (λ i l. sym (marked-off n (named op m 0 xs ys) v i (h .few) l (ap (λ (y : ℕ). bit y i) e ∙ bit-of-zero i)))
+      word-ext v (markNamed n (mergeNamed op m 0 xs ys) v) (h .small) (marked-lt n (mergeNamed op m 0 xs ys) v (h .few))
+      (λ i l. sym (marked-off n (mergeNamed op m 0 xs ys) v i (h .few) l (ap (λ (y : ℕ). bit y i) e ∙ bit-of-zero i)))
       ∙ h .over
 
 -- the lowest word is taken off, as the code has it
@@ -213,19 +213,19 @@ dense-long n l m e =
     (eqb-true n 64 (a .0), eqb-true l 64 (b .0))
 
 module _ (op : ℕ) (xs ys : List ℕ) (w m : ℕ) (zs : List ℕ) where
-  pub dense-out : (r : ℕ) → isDense (length xs) (length ys) m ≡ true → zs ≡ named op all 0 xs ys → r ≡ flags zs
-      → (zs ≡ wordsOf op xs ys m) × (r ≡ overOf op xs ys w m)
-  unfolding wordsOf overOf
+  pub dense-out : (r : ℕ) → isDense (length xs) (length ys) m ≡ true → zs ≡ mergeNamed op all 0 xs ys → r ≡ flags zs
+      → (zs ≡ groupWords op xs ys m) × (r ≡ groupOver op xs ys w m)
+  unfolding groupWords groupOver
   dense-out r d e f =
       rw d (
         e,
         f ∙ sym (marked-all zs w (ap length e ∙ length-named op all 0 xs ys ∙ dense-long (length xs) (length ys) m d .0))
-            ∙ ap (λ (q : List ℕ). marked all q w) e,
+            ∙ ap (λ (q : List ℕ). markNamed all q w) e,
       )
 
-  pub sparse-out : (v : ℕ) → isDense (length xs) (length ys) m ≡ false → zs ≡ named op m 0 xs ys → v ≡ marked m (named op m 0 xs ys) w
-      → (zs ≡ wordsOf op xs ys m) × (v ≡ overOf op xs ys w m)
-  unfolding wordsOf overOf
+  pub sparse-out : (v : ℕ) → isDense (length xs) (length ys) m ≡ false → zs ≡ mergeNamed op m 0 xs ys → v ≡ markNamed m (mergeNamed op m 0 xs ys) w
+      → (zs ≡ groupWords op xs ys m) × (v ≡ groupOver op xs ys w m)
+  unfolding groupWords groupOver
   sparse-out v d e f = rw d (e, f)
 
 -- a group that is not full is not dense
@@ -235,10 +235,10 @@ short-sparse n l m h = rw (ne-eqb n 64 h) refl
 
 -- what is done by another number of the same operation
 pub same-op : (op o : ℕ) (w m : ℕ) (xs ys : List ℕ) {zs : List ℕ} {v : ℕ} → ((x y : ℕ) → opWord o x y ≡ opWord op x y)
-    → (zs ≡ named o m 0 xs ys) × (v ≡ marked m (named o m 0 xs ys) w) → (zs ≡ named op m 0 xs ys) × (v ≡ marked m (named op m 0 xs ys) w)
+    → (zs ≡ mergeNamed o m 0 xs ys) × (v ≡ markNamed m (mergeNamed o m 0 xs ys) w) → (zs ≡ mergeNamed op m 0 xs ys) × (v ≡ markNamed m (mergeNamed op m 0 xs ys) w)
 same-op op o w m xs ys {zs} {v} e h =
     let f = named-op op o m 0 xs ys e in
-    (h .0 ∙ f, h .1 ∙ ap (λ (q : List ℕ). marked m q w) f)
+    (h .0 ∙ f, h .1 ∙ ap (λ (q : List ℕ). markNamed m q w) f)
 
 pub op-equal : (op o : ℕ) → op ≡ o → (x y : ℕ) → opWord o x y ≡ opWord op x y
 op-equal op o e x y = ap (λ (q : ℕ). opWord q x y) (sym e)

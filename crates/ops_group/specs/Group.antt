@@ -11,13 +11,13 @@ use Rattle.store.specs.Build.{flags}
 use Rattle.ops_word.specs.Op.{opWord}
 
 -- of the words from place i on, those that m names become the operation's, each with the other word at its place; the rest stay
-unfoldable pub named : ℕ → ℕ → ℕ → List ℕ → List ℕ → List ℕ
-named op m i [] ys = []
-named op m i (x ∷ xs) ys = cond (eqb (bit m i) 1) (opWord op x (getD ys i 0)) x ∷ named op m (suc i) xs ys
+unfoldable pub mergeNamed : ℕ → ℕ → ℕ → List ℕ → List ℕ → List ℕ
+mergeNamed op m i [] ys = []
+mergeNamed op m i (x ∷ xs) ys = cond (eqb (bit m i) 1) (opWord op x (getD ys i 0)) x ∷ mergeNamed op m (suc i) xs ys
 
 -- the word above: the bits that m names tell of the words zs, the rest stay
-unfoldable pub marked : ℕ → List ℕ → ℕ → ℕ
-marked m zs w = bitOr (bitAnd w (flip m)) (bitAnd m (flags zs))
+unfoldable pub markNamed : ℕ → List ℕ → ℕ → ℕ
+markNamed m zs w = bitOr (bitAnd w (flip m)) (bitAnd m (flags zs))
 
 -- all places
 abbrev pub all : ℕ
@@ -31,11 +31,11 @@ abbrev pub chosen : List ℕ → List ℕ → ℕ → ℕ
 chosen xs ys m = cond (isDense (length xs) (length ys) m) all m
 
 -- the group after, and the word above it
-unfoldable pub wordsOf : ℕ → List ℕ → List ℕ → ℕ → List ℕ
-wordsOf op xs ys m = named op (chosen xs ys m) 0 xs ys
+unfoldable pub groupWords : ℕ → List ℕ → List ℕ → ℕ → List ℕ
+groupWords op xs ys m = mergeNamed op (chosen xs ys m) 0 xs ys
 
-unfoldable pub overOf : ℕ → List ℕ → List ℕ → ℕ → ℕ → ℕ
-overOf op xs ys w m = marked (chosen xs ys m) (wordsOf op xs ys m) w
+unfoldable pub groupOver : ℕ → List ℕ → List ℕ → ℕ → ℕ → ℕ
+groupOver op xs ys w m = markNamed (chosen xs ys m) (groupWords op xs ys m) w
 
 -- ---- the loops
 
@@ -51,5 +51,5 @@ pub record Naming (op : ℕ) (xs ys : List ℕ) (w m : ℕ) (zs : List ℕ) (v n
   pub few : n < 2 ^ 64
   pub small : v < 2 ^ 64
   pub long : length zs ≡ length xs
-  pub words : named op n 0 zs ys ≡ named op m 0 xs ys
-  pub over : marked n (named op m 0 xs ys) v ≡ marked m (named op m 0 xs ys) w
+  pub words : mergeNamed op n 0 zs ys ≡ mergeNamed op m 0 xs ys
+  pub over : markNamed n (mergeNamed op m 0 xs ys) v ≡ markNamed m (mergeNamed op m 0 xs ys) w

@@ -6,7 +6,7 @@ ghost use lib.ListN.{length, getD, set};
 ghost use Rattle.util.specs.Word.{count};
 ghost use Rattle.store.specs.Build.{flags};
 ghost use Rattle.ops_word.specs.Op.{opWord};
-ghost use Rattle.ops_group.specs.Group.{named, marked, all, isDense, wordsOf, overOf};
+ghost use Rattle.ops_group.specs.Group.{mergeNamed, markNamed, all, isDense, groupWords, groupOver};
 
 // Whether three words or fewer are named: a quick look, since to count the bits of a word takes some twenty instructions.
 fn is_few(m: u64) -> bool
@@ -34,7 +34,7 @@ fn is_dense(n: usize, l: usize, m: u64) -> bool
 // A full group, each word with the other's at its place.
 fn merge_64(part: &mut [u64], other: &[u64], op: u64)
     requires { ⌜ (length (now part) ≡ 64) × (length (now other) ≡ 64) ⌝ }
-    ensures { λ r. ⌜ now (part .exit) ≡ named op all 0 (now (part .entry)) (now (other .entry)) ⌝ }
+    ensures { λ r. ⌜ now (part .exit) ≡ mergeNamed op all 0 (now (part .entry)) (now (other .entry)) ⌝ }
 {
     for t in 0..64 {
         part[t] = ops_word::combine(op, part[t], other[t]);
@@ -44,7 +44,8 @@ fn merge_64(part: &mut [u64], other: &[u64], op: u64)
 // The same, and its summary.
 fn dense_64(part: &mut [u64], other: &[u64], op: u64) -> u64
     requires { ⌜ (length (now part) ≡ 64) × (length (now other) ≡ 64) ⌝ }
-    ensures { λ r. ⌜ (now (part .exit) ≡ named op all 0 (now (part .entry)) (now (other .entry))) × (r ≡ flags (now (part .exit))) ⌝ }
+    ensures { λ r. ⌜ now (part .exit) ≡ mergeNamed op all 0 (now (part .entry)) (now (other .entry)) ⌝ }
+    ensures { λ r. ⌜ r ≡ flags (now (part .exit)) ⌝ }
 {
     merge_64(part, other, op);
     summary_word::gather(part, 0)
@@ -52,7 +53,8 @@ fn dense_64(part: &mut [u64], other: &[u64], op: u64) -> u64
 
 // One word of a group; answers what stands there after, 0 past the group's end.
 fn leaf(part: &mut [u64], other: &[u64], t: usize, op: u64) -> u64
-    ensures { λ r. ⌜ (now (part .exit) ≡ set (now (part .entry)) t (opWord op (getD (now (part .entry)) t 0) (getD (now (other .entry)) t 0))) × (r ≡ getD (now (part .exit)) t 0) ⌝ }
+    ensures { λ r. ⌜ (let x = now (part .entry) in now (part .exit) ≡ set x t (opWord op (getD x t 0) (getD (now (other .entry)) t 0))) ⌝ }
+    ensures { λ r. ⌜ r ≡ getD (now (part .exit)) t 0 ⌝ }
 {
     if t < part.len() {
         let z = ops_word::combine(op, part[t], store::get(other, t));
@@ -65,7 +67,8 @@ fn leaf(part: &mut [u64], other: &[u64], t: usize, op: u64) -> u64
 // The words of a group that m names, one by one, each with the other's at its place; w is the word above the group. Answers the word above
 // after.
 pub fn one_by_one(part: &mut [u64], other: &[u64], w: u64, m: u64, op: u64) -> u64
-    ensures { λ r. ⌜ (now (part .exit) ≡ named op m 0 (now (part .entry)) (now (other .entry))) × (r ≡ marked m (named op m 0 (now (part .entry)) (now (other .entry))) w) ⌝ }
+    ensures { λ r. ⌜ now (part .exit) ≡ mergeNamed op m 0 (now (part .entry)) (now (other .entry)) ⌝ }
+    ensures { λ r. ⌜ r ≡ markNamed m (mergeNamed op m 0 (now (part .entry)) (now (other .entry))) w ⌝ }
 {
     let mut over = w;
     let mut left = m;
@@ -80,7 +83,8 @@ pub fn one_by_one(part: &mut [u64], other: &[u64], w: u64, m: u64, op: u64) -> u
 
 // The same, with a loop of its own for each operation.
 fn sparse(part: &mut [u64], other: &[u64], w: u64, m: u64, op: u64) -> u64
-    ensures { λ r. ⌜ (now (part .exit) ≡ named op m 0 (now (part .entry)) (now (other .entry))) × (r ≡ marked m (named op m 0 (now (part .entry)) (now (other .entry))) w) ⌝ }
+    ensures { λ r. ⌜ now (part .exit) ≡ mergeNamed op m 0 (now (part .entry)) (now (other .entry)) ⌝ }
+    ensures { λ r. ⌜ r ≡ markNamed m (mergeNamed op m 0 (now (part .entry)) (now (other .entry))) w ⌝ }
 {
     if op == ops_word::AND {
         return one_by_one(part, other, w, m, ops_word::AND);
@@ -94,7 +98,8 @@ fn sparse(part: &mut [u64], other: &[u64], w: u64, m: u64, op: u64) -> u64
 // The words of a group that m names, each with the other's at its place; w is the word above the group. Answers the word above after.
 // Words that m does not name are merged too where the group goes as a whole.
 pub fn group(part: &mut [u64], other: &[u64], w: u64, m: u64, op: u64) -> u64
-    ensures { λ r. ⌜ (now (part .exit) ≡ wordsOf op (now (part .entry)) (now (other .entry)) m) × (r ≡ overOf op (now (part .entry)) (now (other .entry)) w m) ⌝ }
+    ensures { λ r. ⌜ now (part .exit) ≡ groupWords op (now (part .entry)) (now (other .entry)) m ⌝ }
+    ensures { λ r. ⌜ r ≡ groupOver op (now (part .entry)) (now (other .entry)) w m ⌝ }
 {
     if is_dense(part.len(), other.len(), m) {
         return dense_64(part, other, op);

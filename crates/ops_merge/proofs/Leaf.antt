@@ -14,19 +14,19 @@ use Rattle.store.specs.Word.{word, anc}
 use Rattle.store.proofs.Geometry.{end-step, same-place, after-header}
 use Rattle.store.proofs.Parts.{part-word}
 use Rattle.store.proofs.Words.{word-in, word-out}
-use Rattle.ops_word.specs.Op.{opWord, moved}
-use Rattle.ops_group.specs.Group.{named, marked, wordsOf, overOf}
+use Rattle.ops_word.specs.Op.{opWord, decider}
+use Rattle.ops_group.specs.Group.{mergeNamed, markNamed, groupWords, groupOver}
 use Rattle.ops_group.proofs.Loops.{sparse-out, short-sparse}
-use Rattle.ops_group.proofs.Named.{length-words, words-at, over-at}
-use Rattle.ops_merge.specs.Tree.{Told, Level}
+use Rattle.ops_group.proofs.Named.{length-group, words-at, over-at}
+use Rattle.ops_merge.specs.Tree.{ToldMerge, Level}
 use Rattle.ops_merge.proofs.Parts.{put-in, put-out}
 
 -- where the group stands in a store: behind the groups before it, and as far as the store goes
-pub record Spot (N : ℕ) (s : List ℕ) (j a e : ℕ) : Type 0 where
+pub record GroupSpot (N : ℕ) (s : List ℕ) (j a e : ℕ) : Type 0 where
   pub from : a ≡ min (layerStart N 0 + j * 64) (length s)
   pub upto : e ≡ min (a + 64) (length s)
 
-module _ {N : ℕ} {s : List ℕ} {j a e : ℕ} (z : StoreOf N s) (x : Spot N s j a e) where
+module _ {N : ℕ} {s : List ℕ} {j a e : ℕ} (z : StoreOf N s) (x : GroupSpot N s j a e) where
   -- layer 0 ends where the store does
   last : length s ≡ layerStart N 0 + layerLen N 0
   last = z .long ∙ end-step N 0 (omega arith)
@@ -99,8 +99,8 @@ module _ {N : ℕ} {s : List ℕ} {j a e : ℕ} (z : StoreOf N s) (x : Spot N s 
     long-bs : length bs ≤ length xs
     long-bs = omega (arith, mid-len a e s (low-high .1), mid-len a e b (omega (arith, low-high)))
 
-    pub level-leaves : {ys : List ℕ} {r : ℕ} → ys ≡ wordsOf op (midOf a (e - a) s) (midOf a (e - a) b) m
-        → r ≡ overOf op (midOf a (e - a) s) (midOf a (e - a) b) w m → Level N op s b 0 j w m (putMid a (e - a) s ys) r 0
+    pub level-leaves : {ys : List ℕ} {r : ℕ} → ys ≡ groupWords op (midOf a (e - a) s) (midOf a (e - a) b) m
+        → r ≡ groupOver op (midOf a (e - a) s) (midOf a (e - a) b) w m → Level N op s b 0 j w m (putMid a (e - a) s ys) r 0
     unfolding anc
     level-leaves {ys} {r} is over =
         record {
@@ -124,26 +124,26 @@ module _ {N : ℕ} {s : List ℕ} {j a e : ℕ} (z : StoreOf N s) (x : Spot N s 
         }
       where
         long : length ys ≡ length xs
-        long = ap length is ∙ length-words op xs bs w m few
+        long = ap length is ∙ length-group op xs bs w m few
 
-        at : (c : ℕ) → c / 64 ≡ j → word N (putMid a (e - a) s ys) 0 c ≡ getD (wordsOf op xs bs m) (c % 64) 0
+        at : (c : ℕ) → c / 64 ≡ j → word N (putMid a (e - a) s ys) 0 c ≡ getD (groupWords op xs bs m) (c % 64) 0
         at c h = put-word ys long c h ∙ ap (λ (l : List ℕ). getD l (c % 64) 0) is
 
-        low : Told N op s b 0 j w m → (c : ℕ) → c / 64 ≡ j → word N (putMid a (e - a) s ys) 0 c ≡ opWord op (word N s 0 c) (word N b 0 c)
+        low : ToldMerge N op s b 0 j w m → (c : ℕ) → c / 64 ≡ j → word N (putMid a (e - a) s ys) 0 c ≡ opWord op (word N s 0 c) (word N b 0 c)
         low told c h =
             let f = spot-word s refl c h in
             let g = spot-word b same c h in
             at c h
-            ∙ words-at op xs bs w m few (c % 64) (omega arith) long-bs (λ q. ap₂ (moved op) f g ∙ told .idle c h q)
+            ∙ words-at op xs bs w m few (c % 64) (omega arith) long-bs (λ q. ap₂ (decider op) f g ∙ told .idle c h q)
             ∙ ap₂ (opWord op) f g
 
-        flag : Told N op s b 0 j w m → (c : ℕ) → c / 64 ≡ j → (bit r (c % 64) ≡ 1) ↔ (word N (putMid a (e - a) s ys) 0 c ≢ 0)
+        flag : ToldMerge N op s b 0 j w m → (c : ℕ) → c / 64 ≡ j → (bit r (c % 64) ≡ 1) ↔ (word N (putMid a (e - a) s ys) 0 c ≢ 0)
         flag told c h =
             rw (over, at c h) (over-at op xs bs w m few (c % 64) (omega arith) (λ q. rw (spot-word s refl c h) (told .flagged c h q)))
 
     -- the same of a group that is not full
-    pub level-short : {ys : List ℕ} {r : ℕ} → e < a + 64 → ys ≡ named op m 0 (midOf a (e - a) s) (midOf a (e - a) b)
-        → r ≡ marked m (named op m 0 (midOf a (e - a) s) (midOf a (e - a) b)) w → Level N op s b 0 j w m (putMid a (e - a) s ys) r 0
+    pub level-short : {ys : List ℕ} {r : ℕ} → e < a + 64 → ys ≡ mergeNamed op m 0 (midOf a (e - a) s) (midOf a (e - a) b)
+        → r ≡ markNamed m (mergeNamed op m 0 (midOf a (e - a) s) (midOf a (e - a) b)) w → Level N op s b 0 j w m (putMid a (e - a) s ys) r 0
     level-short {ys} {r} l is over =
         let o = sparse-out op xs bs w m ys r (short-sparse (length xs) (length bs) m (λ z. omega (arith, z, mid-len a e s (low-high .1)))) is over in
         level-leaves (o .0) (o .1)

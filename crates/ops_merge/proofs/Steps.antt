@@ -3,31 +3,27 @@ use mathlib.Core.Bool.{false, not}
 use mathlib.Core.List.{List}
 use mathlib.Core.Logic.{_≢_}
 use mathlib.Core.Path.{_≡_, refl, sym, ap, ap₂, _∙_, subst}
-use Prim.Native.Nat.{ℕ, zero, suc, _+_, _-_, _*_, _/_, _%_, _^_, _≤_, _<_, min}
+use Prim.Native.Nat.{ℕ, suc, _+_, _-_, _*_, _/_, _%_, _^_, _≤_, _<_, min}
 use native.Mathlib.Decide.{decLt}
-use native.Mathlib.Nat.{pow-suc}
 use native.Mathlib.Omega.{arith}
 use borrow.Rule.Slice.PartMut.{midOf, putMid, put-same, same-len-mid, mid-len}
 use lib.Dec.{eqb}
 use lib.ListN.{length, getD, set, take, drop, length-set}
+use lib.Pow.{pow-mono, pow-add}
 use lib.Seq.{set-out}
 use Rattle.util.specs.Word.{bit, change}
 use Rattle.util.proofs.Bits.{change-lt}
-use Rattle.store.specs.Layout.{header, top, layerLen, layerStart, endOf, StoreOf}
+use Rattle.store.specs.Layout.{header, top, topMost, layerLen, layerStart, endOf, startFrom, StoreOf}
 use Rattle.store.specs.Word.{word, put}
-use Rattle.store.proofs.Ends.{Part, part, end0, end-is}
-use Rattle.store.proofs.Geometry.{store-kept, within}
+use Rattle.store.proofs.Ends.{Part, part, start-is, store-small, lent0}
+use Rattle.store.proofs.Geometry.{store-kept}
 use Rattle.store.proofs.Parts.{part-set}
+use Rattle.store.proofs.TopLayer.{top-high}
 use Rattle.store.proofs.Words.{header-put}
-use Rattle.ops_word.specs.Op.{moved}
-use Rattle.ops_merge.specs.Tree.{Exact, Told, Along, Level, Ask}
-use Rattle.ops_merge.proofs.Leaf.{Spot}
-use Rattle.ops_merge.proofs.Tree.{exact-move, along-start, told-under, Stepped, stepped, before, turned}
-
--- the code's number of layers
-pub top-is : (N : ℕ) → top N ≡ 3
-unfolding top
-top-is N = refl
+use Rattle.ops_word.specs.Op.{decider}
+use Rattle.ops_merge.specs.Tree.{Exact, ToldMerge, Along, Level, MergeAt}
+use Rattle.ops_merge.proofs.Leaf.{GroupSpot}
+use Rattle.ops_merge.proofs.Tree.{exact-move, along-start, told-under, MergeStepped, merge-stepped, before, turned}
 
 pub level-start : (N op : ℕ) (s b : List ℕ) (k j w m : ℕ) → m < 2 ^ 64 → Level N op s b k j w m s w m
 level-start N op s b k j w m h = record { few = h; long = refl; head = λ x g. refl; along = along-start N op s b k j w m }
@@ -36,59 +32,55 @@ pub level-end : {N op : ℕ} {s b : List ℕ} {k j w₀ m₀ : ℕ} {t : List �
 level-end {N} {op} {s} {b} {k} {j} {w₀} {m₀} {t} {w} e v = subst (λ (y : ℕ). Level N op s b k j w₀ m₀ t w y) e v
 
 -- the layer's number is 0
-pub ask-zero : {s b : List ℕ} {N k j : ℕ} → k ≡ 0 → Ask s b N k j → Ask s b N 0 j
-ask-zero {s} {b} {N} {k} {j} e z = subst (λ (y : ℕ). Ask s b N y j) e z
+pub ask-zero : {s b : List ℕ} {N k j : ℕ} → k ≡ 0 → MergeAt s b N k j → MergeAt s b N 0 j
+ask-zero {s} {b} {N} {k} {j} e z = subst (λ (y : ℕ). MergeAt s b N y j) e z
 
 pub level-zero : {N op : ℕ} {s b : List ℕ} {k j w₀ m₀ : ℕ} {t : List ℕ} {w m : ℕ} → k ≡ 0 → Level N op s b 0 j w₀ m₀ t w m → Level N op s b k j w₀ m₀ t w m
 level-zero {N} {op} {s} {b} {k} {j} {w₀} {m₀} {t} {w} {m} e v = subst (λ (y : ℕ). Level N op s b y j w₀ m₀ t w m) (sym e) v
 
 -- places stay far below the largest number
-pub small-ask : {s b : List ℕ} {N k j : ℕ} → Ask s b N k j → j < 2 ^ 36
-small-ask {s} {b} {N} {k} {j} z = go k (omega (arith, z .known, top-is N)) (z .small)
-  where
-    go : (i : ℕ) → i ≤ 3 → j < 64 ^ (6 - i) → j < 2 ^ 36
-    go zero h l = omega arith
-    go (suc zero) h l = omega arith
-    go (suc (suc zero)) h l = omega arith
-    go (suc (suc (suc i))) h l = let e : i ≡ 0 = omega arith in omega (arith, subst (λ (y : ℕ). j < 64 ^ (6 - suc (suc (suc y)))) e l)
+pub small-ask : {s b : List ℕ} {N k j : ℕ} → MergeAt s b N k j → j < 2 ^ 36
+small-ask {s} {b} {N} {k} {j} z =
+    let h : 6 * (top N - k) ≤ 6 * topMost = omega (arith, top-high N) in
+    omega (arith, z .small, pow-mono h)
 
-module _ {N op : ℕ} {s b : List ℕ} {k j w₀ m₀ : ℕ} {t : List ℕ} {w m : ℕ} (z : Ask s b N k j) (v : Level N op s b k j w₀ m₀ t w m) where
+module _ {N op : ℕ} {s b : List ℕ} {k j w₀ m₀ : ℕ} {t : List ℕ} {w m : ℕ} (z : MergeAt s b N k j) (v : Level N op s b k j w₀ m₀ t w m) where
   pub store-here : StoreOf N t
   store-here = store-kept (z .first) (v .long) (v .head 0 (omega arith))
 
-  pub ask-child : {c i : ℕ} → k ≢ 0 → i < 64 → c ≡ j * 64 + i → Ask t b N (k - 1) c
+  pub ask-child : {c i : ℕ} → k ≢ 0 → i < 64 → c ≡ j * 64 + i → MergeAt t b N (k - 1) c
   ask-child {c} {i} some l e =
-      let f : 6 - (k - 1) ≡ suc (6 - k) = omega (arith, z .known, top-is N) in
+      let f : 6 * (top N - (k - 1)) ≡ 6 * (top N - k) + 6 = omega (arith, z .known) in
       record {
         first = store-here;
         second = z .second;
         known = omega (arith, z .known);
-        small = subst (λ (y : ℕ). c < y) (sym (ap (λ (y : ℕ). 64 ^ y) f ∙ pow-suc 64 (6 - k))) (omega (arith, z .small));
+        small = subst (λ (y : ℕ). c < y) (sym (ap (λ (y : ℕ). 2 ^ y) f ∙ pow-add 2 (6 * (top N - k)) 6)) (omega (arith, z .small));
       }
 
   -- the layer as the part from a to e
-  module _ {a e : ℕ} (a-is : a ≡ endOf N (k + 1)) (e-is : e ≡ endOf N k) where
+  module _ {a e : ℕ} (a-is : a ≡ startFrom (length s) N k) (e-is : e ≡ endOf N k) where
     p : Part N t k
     p = part store-here k (z .known)
 
     start : a ≡ layerStart N k
-    start = a-is ∙ p .starts
+    start = a-is ∙ start-is (z .first) k
 
     size : e ≡ a + layerLen N k
     size = e-is ∙ p .ends ∙ p .size ∙ ap (λ (y : ℕ). y + layerLen N k) (sym start)
 
-    pub inside : e ≤ length t
-    inside = omega (arith, p .inside, p .ends)
+    pub part-inside : e ≤ length t
+    part-inside = omega (arith, p .inside, p .ends)
 
     -- and where it starts before it ends
     pub ordered : a ≤ e
     ordered = omega (arith, size)
 
     pub near : e < 2 ^ 32
-    near = omega (arith, inside, store-here .long, end0 N (z .first .some) (z .first .most))
+    near = omega (arith, part-inside, store-small store-here)
 
     pub inside-both : (u : List ℕ) → StoreOf N u → e ≤ length u
-    inside-both u y = omega (arith, inside, store-here .long, y .long)
+    inside-both u y = omega (arith, part-inside, store-here .long, y .long)
 
     pub layer-word : (u : List ℕ) (c : ℕ) → getD (midOf a (e - a) u) c 0 ≡ word N u k c
     unfolding word
@@ -98,7 +90,7 @@ module _ {N op : ℕ} {s b : List ℕ} {k j w₀ m₀ : ℕ} {t : List ℕ} {w m
 
     -- A TURN: word c of the layer and all under it are done
     module _ {c i : ℕ} (some : k ≢ 0) (l : i < 64) (on : bit m i ≡ 1) (c-is : c ≡ j * 64 + i) {x y r : ℕ} {t' ys : List ℕ}
-        (x-is : x ≡ getD (midOf a (e - a) t) c 0) (y-is : y ≡ moved op x (getD (midOf a (e - a) b) c 0))
+        (x-is : x ≡ getD (midOf a (e - a) t) c 0) (y-is : y ≡ decider op x (getD (midOf a (e - a) b) c 0))
         (inner : Level N op t b (k - 1) c x y t' r 0) (ys-is : ys ≡ set (midOf a (e - a) t') c r) where
       abbrev u : List ℕ
       u = putMid a (e - a) t' ys
@@ -141,20 +133,20 @@ module _ {N op : ℕ} {s b : List ℕ} {k j w₀ m₀ : ℕ} {t : List ℕ} {w m
       up = omega arith
 
       -- under what was told, word c is done
-      step : Told N op s b k j w₀ m₀ → Stepped N op t b k c u r
+      step : ToldMerge N op s b k j w₀ m₀ → MergeStepped N op t b k c u r
       step told =
           let f : c < layerLen N k = v .along told .inside c here left in
-          subst (λ (o : List ℕ). Stepped N op t b k c o r) (sym (written f))
-          (subst (λ (q : ℕ). Stepped N op t b q c (put N t' q c r) r) up
-          (stepped N op t b (k - 1) c t' r (there .long) (omega (arith, z .known)) (subst (λ (q : ℕ). c < layerLen N q) (sym up) f)
-          (inner .along (subst (λ (q : ℕ). Told N op t b (k - 1) c q y) (sym x-word)
-          (subst (λ (q : ℕ). Told N op t b (k - 1) c (word N t (suc (k - 1)) c) q) (sym y-word) (told-under N op t b (k - 1) c first second))))))
+          subst (λ (o : List ℕ). MergeStepped N op t b k c o r) (sym (written f))
+          (subst (λ (q : ℕ). MergeStepped N op t b q c (put N t' q c r) r) up
+          (merge-stepped N op t b (k - 1) c t' r (there .long) (omega (arith, z .known)) (subst (λ (q : ℕ). c < layerLen N q) (sym up) f)
+          (inner .along (subst (λ (q : ℕ). ToldMerge N op t b (k - 1) c q y) (sym x-word)
+          (subst (λ (q : ℕ). ToldMerge N op t b (k - 1) c (word N t (suc (k - 1)) c) q) (sym y-word) (told-under N op t b (k - 1) c first second))))))
         where
           x-word : x ≡ word N t (suc (k - 1)) c
           x-word = x-is ∙ layer-word t c ∙ ap (λ (q : ℕ). word N t q c) (sym up)
 
-          y-word : y ≡ moved op (word N t (suc (k - 1)) c) (word N b (suc (k - 1)) c)
-          y-word = y-is ∙ ap₂ (moved op) x-word (layer-word b c ∙ ap (λ (q : ℕ). word N b q c) (sym up))
+          y-word : y ≡ decider op (word N t (suc (k - 1)) c) (word N b (suc (k - 1)) c)
+          y-word = y-is ∙ ap₂ (decider op) x-word (layer-word b c ∙ ap (λ (q : ℕ). word N b q c) (sym up))
 
           first : Exact N t (suc (k - 1)) c
           first = subst (λ (q : ℕ). Exact N t q c) (sym up)
@@ -181,15 +173,12 @@ module _ {N op : ℕ} {s b : List ℕ} {k j w₀ m₀ : ℕ} {t : List ℕ} {w m
 
 -- ---- the group of layer 0 under word j
 
-module _ {s b : List ℕ} {N j : ℕ} (z : Ask s b N 0 j) where
-  start0 : endOf N 1 ≡ layerStart N 0
-  start0 = end-is N 1 (z .first .some) (z .first .most)
+module _ {s b : List ℕ} {N j : ℕ} (z : MergeAt s b N 0 j) where
+  pub start-near : {a : ℕ} → a ≡ startFrom (length s) N 0 → a < 2 ^ 32
+  start-near {a} h = omega (arith, lent0 (z .first) h .inside, store-small (z .first))
 
-  pub start-small : {a : ℕ} → a ≡ endOf N 1 → a < 2 ^ 32
-  start-small {a} h = omega (arith, h, start0, within N 1 (omega (arith, top-is N)), end0 N (z .first .some) (z .first .most))
+  pub spot-here : {a e f : ℕ} → f ≡ startFrom (length s) N 0 → a ≡ min (f + j * 64) (length s) → e ≡ min (a + 64) (length s) → GroupSpot N s j a e
+  spot-here {a} {e} {f} g h i = record { from = h ∙ ap (λ (x : ℕ). min (x + j * 64) (length s)) (g ∙ start-is (z .first) 0); upto = i }
 
-  pub spot-here : {a e f : ℕ} → f ≡ endOf N 1 → a ≡ min (f + j * 64) (length s) → e ≡ min (a + 64) (length s) → Spot N s j a e
-  spot-here {a} {e} {f} g h i = record { from = h ∙ ap (λ (x : ℕ). min (x + j * 64) (length s)) (g ∙ start0); upto = i }
-
-  pub same-long : length b ≡ length s
-  same-long = z .second .long ∙ sym (z .first .long)
+  pub both-long : length b ≡ length s
+  both-long = z .second .long ∙ sym (z .first .long)

@@ -1,6 +1,6 @@
 -- What a caller wants: the result is sound, its members are the union, the intersection or the symmetric difference, it is the one sound
 -- store with those members, and any two outcomes that meet the promise are equal where it settles them.
-use mathlib.Core.Bool.{true, _&&_}
+use mathlib.Core.Bool.{Bool, true, false, _&&_, true≢false}
 use mathlib.Core.List.{List, zipWith}
 use mathlib.Core.Logic.{_≢_, _⊎_, inl, inr, ⊎-elim, _↔_}
 use mathlib.Core.Path.{_≡_, refl, sym, ap, ap₂, _∙_, subst}
@@ -17,14 +17,14 @@ use Rattle.util.proofs.Same.{both}
 use Rattle.store.specs.Answer.{didPaper}
 use Rattle.store.specs.Build.{layer0}
 use Rattle.store.specs.Layout.{layerLen, cap, isStore, StoreOf}
-use Rattle.store.specs.Word.{on, word, Member, Sound, Words64}
+use Rattle.store.specs.Word.{on, word, Member, Sound, Words64, SoundStore}
 use Rattle.store.specs.declared.Did.{Did}
-use Rattle.store.proofs.Build.{cap-build, length-build, on-build, sound-build, words-build}
-use Rattle.store.proofs.Geometry.{store-is}
-use Rattle.store.proofs.Members.{same-store}
-use Rattle.store.proofs.Words.{on-lt, word-lt}
+use Rattle.store.proofs.Build.{cap-build, on-build, build-fine}
+use Rattle.store.proofs.Geometry.{is-store, store-is}
+use Rattle.store.proofs.Members.{member-on, on-member, own, fine-same}
+use Rattle.store.proofs.Words.{on-lt}
 use Rattle.ops_word.specs.Op.{opWord, opBit}
-use Rattle.ops_word.proofs.Op.{op-bit, op-lt}
+use Rattle.ops_word.proofs.Op.{op-bit}
 use Rattle.ops_merge.specs.Calls.{mergedOf, mergeable, BothStores, assignOf, BothSound, Assigned}
 use Rattle.ops_merge.proofs.Tree.{on-is}
 use Rattle.ops_merge.proofs.Whole.{long-merged, word-merged, kept-merged}
@@ -57,24 +57,6 @@ module _ (s t : List ℕ) (p : BothStores s t) (ws : Words64 s) (wt : Words64 t)
   unfolding mergedOf
   cap-merged op = cap-build (cap s) (low op) (long op)
 
-  pub store-merged : (op : ℕ) → StoreOf (cap s) (mergedOf op s t)
-  unfolding mergedOf
-  store-merged op =
-      record {
-        some = p .first .some;
-        most = p .first .most;
-        names = cap-build (cap s) (low op) (long op);
-        long = length-build (cap s) (low op) (long op) (p .first .some);
-      }
-
-  -- its words are words
-  pub words-merged : (op : ℕ) → Words64 (mergedOf op s t)
-  unfolding mergedOf
-  words-merged op =
-      words-build (cap s) (low op) (long op) (p .first .most)
-      (λ q. rw (word-merged op (p .first) (p .second) ws wt q)
-      (op-lt op 64 (word (cap s) s 0 q) (word (cap s) t 0 q) (word-lt (cap s) s ws 0 q) (word-lt (cap s) t wt 0 q)))
-
   -- bit by bit
   pub on-merged : (op i : ℕ) → on (cap s) (mergedOf op s t) 0 i ≡ opBit op (on (cap s) s 0 i) (on (cap s) t 0 i)
   unfolding mergedOf
@@ -85,17 +67,17 @@ module _ (s t : List ℕ) (p : BothStores s t) (ws : Words64 s) (wt : Words64 t)
       ∙ sym (ap₂ (opBit op) (on-is (cap s) s 0 i) (on-is (cap s) t 0 i))
 
   -- SOUNDNESS is kept
-  pub sound-merged : (op : ℕ) → Sound (cap s) s → Sound (cap s) t → Sound (cap s) (mergedOf op s t)
+  fine-both : (op : ℕ) → Sound (cap s) s → Sound (cap s) t → SoundStore (cap s) (mergedOf op s t)
   unfolding mergedOf
-  sound-merged op zs zt = sound-build (cap s) (low op) (long op) (kept-merged op (p .first) (p .second) ws wt zs zt)
+  fine-both op zs zt =
+      build-fine (cap s) (low op) (p .first .some) (p .first .most) (long op) (kept-merged op (p .first) (p .second) ws wt zs zt)
+
+  pub sound-merged : (op : ℕ) → Sound (cap s) s → Sound (cap s) t → Sound (cap s) (mergedOf op s t)
+  sound-merged op zs zt = fine-both op zs zt .sound
 
   -- a member of a store of this capacity, by its bit
-  module _ (u : List ℕ) (c : cap u ≡ cap s) (i : ℕ) where
-    pub member-on : Member u i ↔ ((i < cap s) × (on (cap s) u 0 i ≡ 1))
-    member-on = (
-      (λ m. (subst (λ (n : ℕ). i < n) c (m .below), subst (λ (n : ℕ). on n u 0 i ≡ 1) c (m .held))),
-      λ m. record { below = subst (λ (n : ℕ). i < n) (sym c) (m .0); held = subst (λ (n : ℕ). on n u 0 i ≡ 1) (sym c) (m .1) },
-    )
+  by-bit : (u : List ℕ) → cap u ≡ cap s → (i : ℕ) → Member u i ↔ ((i < cap s) × (on (cap s) u 0 i ≡ 1))
+  by-bit u c i = (member-on c, λ m. on-member c (m .0) (m .1))
 
   module _ (i : ℕ) where
     abbrev a : ℕ
@@ -105,13 +87,13 @@ module _ (s t : List ℕ) (p : BothStores s t) (ws : Words64 s) (wt : Words64 t)
     b = on (cap s) t 0 i
 
     of-s : Member s i ↔ ((i < cap s) × (a ≡ 1))
-    of-s = member-on s refl i
+    of-s = by-bit s refl i
 
     of-t : Member t i ↔ ((i < cap s) × (b ≡ 1))
-    of-t = member-on t (p .caps) i
+    of-t = by-bit t (p .caps) i
 
     of-merged : (op : ℕ) → Member (mergedOf op s t) i ↔ ((i < cap s) × (opBit op a b ≡ 1))
-    of-merged op = rw (sym (on-merged op i)) (member-on (mergedOf op s t) (cap-merged op) i)
+    of-merged op = rw (sym (on-merged op i)) (by-bit (mergedOf op s t) (cap-merged op) i)
 
     small : (a < 2) × (b < 2)
     small = (on-lt (cap s) s 0 i, on-lt (cap s) t 0 i)
@@ -170,14 +152,9 @@ module _ (s t : List ℕ) (p : BothStores s t) (ws : Words64 s) (wt : Words64 t)
             of-merged 18 .1 (h .0, ap₂ differ z (h .1)))
 
   -- THE ONE SOUND STORE with those members
-  pub merged-unique : (op : ℕ) → Sound (cap s) s → Sound (cap s) t → (u : List ℕ) → StoreOf (cap s) u → Words64 u → Sound (cap s) u
+  pub merged-unique : (op : ℕ) → Sound (cap s) s → Sound (cap s) t → (u : List ℕ) → SoundStore (cap s) u
       → ((i : ℕ) → Member u i ↔ Member (mergedOf op s t) i) → u ≡ mergedOf op s t
-  merged-unique op zs zt u is wu zu same =
-      let c = store-merged op .names in
-      same-store u (mergedOf op s t)
-      (subst (λ (n : ℕ). StoreOf n u) (sym (is .names)) is) (subst (λ (n : ℕ). StoreOf n (mergedOf op s t)) (sym c) (store-merged op))
-      (is .names ∙ sym c) wu (words-merged op)
-      (subst (λ (n : ℕ). Sound n u) (sym (is .names)) zu) (subst (λ (n : ℕ). Sound n (mergedOf op s t)) (sym c) (sound-merged op zs zt)) same
+  merged-unique op zs zt u f same = fine-same f (fine-both op zs zt) same
 
 -- ---- THE CALLS
 
@@ -189,14 +166,24 @@ leaves-merged {op} {s} {t} v h zs zt =
     let p = both (isStore s && isStore t) (eqb (cap s) (cap t)) h in
     v .whole (λ g. (zs, zt)) .memory ∙ rw (p .0, p .1)
 
--- and it is sound
-pub assigned-sound : {op : ℕ} {s t : List ℕ} {r : Did} {u : List ℕ} → Words64 s → Words64 t → Assigned op s t r u → mergeable s t ≡ true → Sound (cap s) s
-    → Sound (cap t) t → Sound (cap u) u
-assigned-sound {op} {s} {t} {r} {u} ws wt v h zs zt =
-    let p = both-stores s t h in
-    subst (Sound (cap u)) (sym (leaves-merged v h zs zt))
-    (subst (λ (n : ℕ). Sound n (mergedOf op s t)) (sym (v .names))
-    (sound-merged s t p ws wt op zs (subst (λ (n : ℕ). Sound n t) (p .caps) zt)))
+-- WHAT A CALL LEAVES of two sound stores is a sound store: of equal capacity the merged one, and of another nothing is changed
+pub fine-merged : {N M op : ℕ} {s t : List ℕ} {r : Did} {u : List ℕ} → SoundStore N s → SoundStore M t → Assigned op s t r u → SoundStore N u
+unfolding mergeable assignOf
+fine-merged {N} {M} {op} {s} {t} {r} {u} f g v = subst (λ (n : ℕ). SoundStore n u) (f .is .names) (go (eqb (cap s) (cap t)) refl)
+  where
+    go : (x : Bool) → eqb (cap s) (cap t) ≡ x → SoundStore (cap s) u
+    go true e =
+        let h : mergeable s t ≡ true = rw (is-store (f .is), is-store (g .is), e) in
+        let p = both-stores s t h in
+        subst (SoundStore (cap s)) (sym (leaves-merged v h (own f .sound) (own g .sound)))
+        (fine-both s t p (f .words) (g .words) op (own f .sound) (subst (λ (n : ℕ). Sound n t) (p .caps) (own g .sound)))
+    go false e =
+        let n : mergeable s t ≡ false = rw (is-store (f .is), is-store (g .is), e) in
+        let k : assignOf op s t .lent ≡ s = rw (is-store (f .is), is-store (g .is), e) in
+        subst (SoundStore (cap s)) (sym (v .whole (λ h. absurd (true≢false (sym h ∙ n))) .memory ∙ k)) (own f)
+
+pub assigned-sound : {N M op : ℕ} {s t : List ℕ} {r : Did} {u : List ℕ} → SoundStore N s → SoundStore M t → Assigned op s t r u → Sound (cap u) u
+assigned-sound f g v = own (fine-merged f g v) .sound
 
 -- "Any two outcomes that satisfy it are proved equal": always the answer, length and word 0; all memory but where the call goes through
 -- with an unsound store

@@ -14,9 +14,9 @@ use Rattle.util.proofs.Bits.{bit-of-zero, change-same, change-other}
 use Rattle.store.specs.Layout.{top, layerLen, storeLen}
 use Rattle.store.specs.Word.{word, on, anc, put}
 use Rattle.store.proofs.Words.{word-out, word-put-same, word-put-other, on-put-same}
-use Rattle.ops_word.specs.Op.{opWord, moved}
+use Rattle.ops_word.specs.Op.{opWord, decider}
 use Rattle.ops_word.proofs.Op.{op-still}
-use Rattle.ops_merge.specs.Tree.{Exact, Told, Done, Child, Along}
+use Rattle.ops_merge.specs.Tree.{Exact, ToldMerge, Done, Child, Along}
 
 pub anc-half : (p d : ℕ) → anc (p / 64) d ≡ anc p (suc d)
 unfolding anc
@@ -91,8 +91,8 @@ module _ (N : ℕ) (s : List ℕ) where
 
 module _ (N op : ℕ) (s b : List ℕ) where
   -- what is not moved is done already
-  still : (k j : ℕ) → moved op (word N s k j) (word N b k j) ≡ 0 → Exact N s k j → Exact N b k j → Done N op s b k j s
-  unfolding moved
+  still : (k j : ℕ) → decider op (word N s k j) (word N b k j) ≡ 0 → Exact N s k j → Exact N b k j → Done N op s b k j s
+  unfolding decider
   still k j z f g = record { low = λ q a. sym (op-still op (word N s 0 q) (word N b 0 q) (go (eqb op 16) z q a)); exact = f }
     where
       go : (p : Bool) → cond p (word N s k j) (word N b k j) ≡ 0 → (q : ℕ) → anc q k ≡ j → cond p (word N s 0 q) (word N b 0 q) ≡ 0
@@ -100,7 +100,7 @@ module _ (N op : ℕ) (s b : List ℕ) where
       go false h q a = zero-under N b k j g h k 0 q (omega arith) a
 
   -- before the first turn
-  pub along-start : (k j w m : ℕ) → Told N op s b k j w m → Along N op s b k j s w m
+  pub along-start : (k j w m : ℕ) → ToldMerge N op s b k j w m → Along N op s b k j s w m
   along-start k j w m z =
       record {
         kept = λ l q h n. refl;
@@ -110,8 +110,8 @@ module _ (N op : ℕ) (s b : List ℕ) where
 
   -- what is told of the words under a word whose summaries are exact
   pub told-under : (k c : ℕ) → Exact N s (suc k) c → Exact N b (suc k) c
-      → Told N op s b k c (word N s (suc k) c) (moved op (word N s (suc k) c) (word N b (suc k) c))
-  unfolding moved
+      → ToldMerge N op s b k c (word N s (suc k) c) (decider op (word N s (suc k) c) (word N b (suc k) c))
+  unfolding decider
   told-under k c f g =
       record {
         first = λ i h. exact-child N s k c i h f;
@@ -132,7 +132,7 @@ module _ (N op : ℕ) (s b : List ℕ) where
 
 -- ---- one word of layer k + 1 with all that stands under it, when that is done and the word is written
 
-pub record Stepped (N op : ℕ) (s b : List ℕ) (k c : ℕ) (u : List ℕ) (r : ℕ) : Type 0 where
+pub record MergeStepped (N op : ℕ) (s b : List ℕ) (k c : ℕ) (u : List ℕ) (r : ℕ) : Type 0 where
   pub kept : (l q : ℕ) → l ≤ top N → ((d : ℕ) → l + d ≡ k → anc q d ≡ c → ⊥) → word N u l q ≡ word N s l q
   pub result : r ≡ word N u k c
   pub done : Done N op s b k c u
@@ -159,9 +159,9 @@ module _ (N op : ℕ) (s b : List ℕ) (k c : ℕ) (t : List ℕ) (r : ℕ) (lon
       (rw (on-put-same N t long (suc k) c r known fits p a, under-same 0 k p (omega arith)) (each p a .flag))
   exact-here l (suc d) p e a = exact-under (anc p (suc d)) a .is l d p (omega arith) refl
 
-  pub stepped : Stepped N op s b (suc k) c (put N t (suc k) c r) r
+  pub merge-stepped : MergeStepped N op s b (suc k) c (put N t (suc k) c r) r
   unfolding anc
-  stepped =
+  merge-stepped =
       record {
         kept = λ l q h n.
             word-put-other N t long (suc k) c r known fits l q h (λ e a. n 0 (omega arith) a)
@@ -189,7 +189,7 @@ module _ (N op : ℕ) (s b : List ℕ) (k j c : ℕ) (t : List ℕ) (w m : ℕ) 
           let p : anc q d' ≡ c = ap (anc q) same ∙ a in
           omega (arith, left, sym (ap (λ (y : ℕ). bit m (y % 64)) p) ∙ z)
 
-  module _ (u : List ℕ) (r : ℕ) (x : Stepped N op t b k c u r) where
+  module _ (u : List ℕ) (r : ℕ) (x : MergeStepped N op t b k c u r) where
     -- the word above and what is left, after the turn
     abbrev w' : ℕ
     w' = change (not (eqb r 0)) w (c % 64)

@@ -11,13 +11,13 @@ use Rattle.util.specs.Word.{bit}
 use Rattle.util.proofs.Bits.{bit-of-zero, bit-high, bit-pow-same, bit-pow-other}
 use Rattle.store.specs.Build.{build, layer0, room0, Kept}
 use Rattle.store.specs.Layout.{top, maxCap, room, layerLen, cap, StoreOf}
-use Rattle.store.specs.Word.{word, on, anc, Sound, Words64}
+use Rattle.store.specs.Word.{word, on, anc, SoundLayers, Sound, Words64, SoundStore}
 use Rattle.store.proofs.Build.{length-layer0, word-layer0, sound-built}
-use Rattle.store.proofs.Geometry.{room-falls, room-closed}
+use Rattle.store.proofs.TopLayer.{top-one}
 use Rattle.store.proofs.Words.{word-out, place-in}
-use Rattle.ops_word.specs.Op.{opWord, moved}
+use Rattle.ops_word.specs.Op.{opWord, decider}
 use Rattle.ops_word.proofs.Op.{op-none, op-lt, moved-none}
-use Rattle.ops_merge.specs.Tree.{Told, Done}
+use Rattle.ops_merge.specs.Tree.{ToldMerge, Done}
 use Rattle.ops_merge.proofs.Tree.{anc-half, on-is, some-in}
 
 -- ---- two lists word by word
@@ -38,10 +38,6 @@ getD-zip op (x ∷ xs) (y ∷ ys) (suc i) e = getD-zip op xs ys i (omega arith)
 
 -- ---- the top layer has one word, and every word stands under it
 
-one-top : (N : ℕ) → 1 ≤ N → N ≤ maxCap → layerLen N (top N) ≡ 1
-unfolding top
-one-top N some most = omega (arith, room-closed N 4, room-falls N 4 some)
-
 anc-room : (N p d l k : ℕ) → l + d ≡ k → p < room N l → anc p d < room N k
 unfolding anc
 anc-room N p zero l k e h = let q : l ≡ k = omega arith in subst (λ (x : ℕ). p < room N x) q h
@@ -50,17 +46,17 @@ anc-room N p (suc d) l (suc k) e h = place-in N k (anc p d) (anc-room N p d l k 
 
 module _ (N op : ℕ) (s b : List ℕ) (some : 1 ≤ N) (most : N ≤ maxCap) where
   under-top : (l d q : ℕ) → l + d ≡ top N → q < layerLen N l → anc q d ≡ 0
-  under-top l d q e h = omega (arith, anc-room N q d (suc l) (suc (top N)) (omega arith) h, one-top N some most)
+  under-top l d q e h = omega (arith, anc-room N q d (suc l) (suc (top N)) (omega arith) h, top-one N some most)
 
   -- WHAT IS TOLD at the top
-  pub top-told : Sound N s → Sound N b → Told N op s b (top N) 0 0 1
+  pub top-told : SoundLayers N s → SoundLayers N b → ToldMerge N op s b (top N) 0 0 1
   top-told zs zb =
       record {
         first = λ c h. record { is = λ l d p e a. zs .exact l p (omega arith) };
         second = λ c h. record { is = λ l d p e a. zb .exact l p (omega arith) };
-        inside = λ c h o. omega (arith, one-top N some most, first c h o (ℕ-discrete (c % 64) 0));
+        inside = λ c h o. omega (arith, top-one N some most, first c h o (ℕ-discrete (c % 64) 0));
         flagged = λ c h z. ((λ o. absurd (omega (arith, o, bit-of-zero (c % 64)))), λ n. absurd (n (none s c h z)));
-        idle = λ c h z. ap₂ (moved op) (none s c h z) (none b c h z) ∙ moved-none op;
+        idle = λ c h z. ap₂ (decider op) (none s c h z) (none b c h z) ∙ moved-none op;
       }
     where
       first : (c : ℕ) → c / 64 ≡ 0 → bit 1 (c % 64) ≡ 1 → Dec (c % 64 ≡ 0) → c ≡ 0
@@ -72,7 +68,7 @@ module _ (N op : ℕ) (s b : List ℕ) (some : 1 ≤ N) (most : N ≤ maxCap) wh
         where
           go : Dec (c % 64 ≡ 0) → word N u (top N) c ≡ 0
           go (yes p) = absurd (omega (arith, sym z ∙ ap (bit 1) p ∙ bit-pow-same 0))
-          go (no n) = word-out N u (top N) c (omega (arith, one-top N some most))
+          go (no n) = word-out N u (top N) c (omega (arith, top-one N some most))
 
   -- WHAT IS DONE
   module _ (t : List ℕ) (d : Done N op s b (top N) 0 t) where
@@ -151,11 +147,14 @@ module _ {N : ℕ} (op : ℕ) {s b : List ℕ} (is : StoreOf N s) (ib : StoreOf 
               absurd (omega (arith, sym o ∙ on-is N t 0 p ∙ z))
       done-inside (suc k) p h o = some-in N t k p (exact-all N op s b (is .some) (is .most) t d k p h .0 o)
 
-      done-sound : Sound N t
-      done-sound = record { inside = done-inside; exact = exact-all N op s b (is .some) (is .most) t d }
+      done-layers : SoundLayers N t
+      done-layers = record { inside = done-inside; exact = exact-all N op s b (is .some) (is .most) t d }
+
+      done-fine : SoundStore N t
+      done-fine = record { is = it; words = wt; sound = record { layers = done-layers } }
 
       pub done-merged : t ≡ build N (zipWith (opWord op) (layer0 N s) (layer0 N b))
       done-merged =
-          built it wt .0 done-sound .0
+          built it wt .0 (done-fine .sound) .0
           ∙ ap (build N)
           (ext-getD 0 (layer0 N t) low (long-low it wt ∙ sym long-merged) (λ q l. word-low it wt q ∙ done-low q))

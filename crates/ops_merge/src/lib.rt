@@ -3,7 +3,7 @@
 ghost use mathlib.Core.Path.{_≡_};
 ghost use Prim.Native.Nat.{_-_, _<_, min};
 ghost use Rattle.ops_merge.specs.Calls.{Assigned};
-ghost use Rattle.ops_merge.specs.Tree.{Ask, Level};
+ghost use Rattle.ops_merge.specs.Tree.{MergeAt, TaskDone, taskOf};
 use store::Did;
 
 fn least(x: usize, y: usize) -> usize
@@ -15,10 +15,10 @@ fn least(x: usize, y: usize) -> usize
 // The words of layer 0 under word j of layer 1, of which m names those that can change; w is that word. Answers the word after. The last
 // group may be short.
 fn leaves(store: &mut [u64], other: &[u64], n: usize, j: usize, w: u64, m: u64, op: u64) -> u64
-    requires { ⌜ Ask (now store) (now other) n 0 j ⌝ }
-    ensures { λ r. ⌜ Level n op (now (store .entry)) (now (other .entry)) 0 j w m (now (store .exit)) r 0 ⌝ }
+    requires { ⌜ MergeAt (now store) (now other) n 0 j ⌝ }
+    ensures { λ r. ⌜ TaskDone (taskOf op n 0 j w m) (now (store .entry)) (now (other .entry)) (now (store .exit)) r ⌝ }
 {
-    let a = store::end(n, 1) + j * 64;
+    let a = store::start(store.len(), n, 0) + j * 64;
     let e = a + 64;
     if e <= store.len() {
         return ops_group::group(&mut store[a..e], &other[a..e], w, m, op);
@@ -39,8 +39,8 @@ fn under(
     m: u64,
     op: u64,
 ) -> u64
-    requires { ⌜ (0 < k) × Ask (now store) (now other) n (k - 1) j ⌝ }
-    ensures { λ r. ⌜ Level n op (now (store .entry)) (now (other .entry)) (k - 1) j w m (now (store .exit)) r 0 ⌝ }
+    requires { ⌜ (0 < k) × MergeAt (now store) (now other) n (k - 1) j ⌝ }
+    ensures { λ r. ⌜ TaskDone (taskOf op n (k - 1) j w m) (now (store .entry)) (now (other .entry)) (now (store .exit)) r ⌝ }
 {
     if k == 1 {
         return leaves(store, other, n, j, w, m, op);
@@ -59,10 +59,10 @@ fn below(
     m: u64,
     op: u64,
 ) -> u64
-    requires { ⌜ (0 < k) × Ask (now store) (now other) n k j ⌝ }
-    ensures { λ r. ⌜ Level n op (now (store .entry)) (now (other .entry)) k j w m (now (store .exit)) r 0 ⌝ }
+    requires { ⌜ (0 < k) × MergeAt (now store) (now other) n k j ⌝ }
+    ensures { λ r. ⌜ TaskDone (taskOf op n k j w m) (now (store .entry)) (now (other .entry)) (now (store .exit)) r ⌝ }
 {
-    let a = store::end(n, k + 1);
+    let a = store::start(store.len(), n, k);
     let e = store::end(n, k);
     let mut over = w;
     let mut left = m;
@@ -94,6 +94,6 @@ pub fn assign(store: &mut [u64], other: &[u64], op: u64) -> Did
     if n != l {
         return Did::Refused(5);
     }
-    below(store, other, n, 3, 0, 0, 1, op);
+    below(store, other, n, store::top(n), 0, 0, 1, op);
     Did::Done
 }

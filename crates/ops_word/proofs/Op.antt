@@ -6,10 +6,10 @@ use lib.Bits.{bitAnd, bitOr, bitXor, differ, and-zero-l, or-zero-r, xor-zero-r, 
 use lib.Dec.{eqb}
 use Rattle.util.specs.Word.{bit}
 use Rattle.util.proofs.Bits.{bit-and, bit-or, bit-xor}
-use Rattle.ops_word.specs.Op.{opWord, opBit, moved}
+use Rattle.ops_word.specs.Op.{opWord, opBit, decider}
 
-pub op-still : (op x y : ℕ) → moved op x y ≡ 0 → opWord op x y ≡ x
-unfolding opWord moved
+pub op-still : (op x y : ℕ) → decider op x y ≡ 0 → opWord op x y ≡ x
+unfolding opWord decider
 op-still op x y = go (eqb op 16) (eqb op 17)
   where
     go : (p q : Bool) → cond p x y ≡ 0 → cond p (bitAnd x y) (cond q (bitOr x y) (bitXor x y)) ≡ x
@@ -27,8 +27,8 @@ op-bit op x y b = go (eqb op 16) (eqb op 17)
     go false true = bit-or x y b
     go false false = bit-xor x y b
 
-pub moved-none : (op : ℕ) → moved op 0 0 ≡ 0
-unfolding moved
+pub moved-none : (op : ℕ) → decider op 0 0 ≡ 0
+unfolding decider
 moved-none op = go (eqb op 16)
   where
     go : (p : Bool) → cond {A = ℕ} p 0 0 ≡ 0

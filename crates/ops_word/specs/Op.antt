@@ -12,5 +12,5 @@ unfoldable pub opBit : ℕ → ℕ → ℕ → ℕ
 opBit op x y = cond (eqb op 16) (min x y) (cond (eqb op 17) (max x y) (differ x y))
 
 -- the word of the side that decides: where it is 0, the first word stays. Of and it is the first, else the second.
-unfoldable pub moved : ℕ → ℕ → ℕ → ℕ
-moved op x y = cond (eqb op 16) x y
+unfoldable pub decider : ℕ → ℕ → ℕ → ℕ
+decider op x y = cond (eqb op 16) x y

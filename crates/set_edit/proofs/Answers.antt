@@ -1,49 +1,106 @@
 -- What each way out of the code answers is what the definition answers there.
-use mathlib.Core.Bool.{Bool, true, false, _&&_}
+use mathlib.Core.Bool.{Bool, true, false, cond, not, _&&_}
 use mathlib.Core.List.{List}
 use mathlib.Core.Logic.{_≢_}
-use mathlib.Core.Path.{_≡_, sym, ap, _∙_}
-use Prim.Native.Nat.{ℕ, suc, _/_, _<_}
-use borrow.Author.Tests.{eqb-true, eqb-false, lt-ltb}
-use lib.Dec.{ltb}
-use lib.ListN.{length, getD, drop}
+use mathlib.Core.Path.{_≡_, refl, sym, ap, _∙_}
+use Prim.Native.Nat.{ℕ, suc, _+_, _/_, _%_, _^_, _<_}
+use native.Mathlib.Decide.{ℕ-discrete}
+use native.Mathlib.Omega.{arith}
+use borrow.Author.Tests.{eq-eqb, ne-eqb, lt-ltb}
+use lib.Dec.{ltb, eqb}
+use lib.ListN.{length, getD, drop, set as set-at}
 use lib.Seq.{drop-cons, drop-length}
 use Rattle.util.specs.Outcome.{Settled, settled}
+use Rattle.util.specs.Word.{bit, change}
+use Rattle.util.proofs.Bits.{change-kept, kept-change}
 use Rattle.store.specs.Answer.{askedPaper, didPaper}
 use Rattle.store.specs.Layout.{top, isStore, StoreOf}
-use Rattle.store.specs.Word.{word}
+use Rattle.store.specs.Word.{word, on, anc}
 use Rattle.store.specs.declared.Asked.{Asked}
 use Rattle.store.specs.declared.Asked.the-variants.{Is, Refused as AskedRefused}
 use Rattle.store.specs.declared.Did.the-variants.{Done, Refused as DidRefused}
+use Rattle.store.proofs.Ends.{id-word}
 use Rattle.store.proofs.Geometry.{is-store}
+use Rattle.store.proofs.Words.{on-lt}
 use Rattle.set_member.specs.Calls.{holds}
-use Rattle.set_member.specs.Place.{Placed, Outside}
+use Rattle.set_member.specs.Place.{Placed, Inside, Outside}
 use Rattle.set_edit.specs.Calls.{stays, moveOf, allBelow, addAll, addListOf}
-use Rattle.set_edit.specs.Edit.{edits, addLayers, climb, removeLayers, layersOf, Moved}
-use Rattle.set_edit.proofs.Moves.{add-none, add-all, add-one-layer, remove-none, remove-some}
+use Rattle.set_edit.specs.Edit.{edits, climb, layersOf, movedBy}
+use Rattle.set_edit.specs.Steps.{Edited, Begun, Ended, Moved}
+use Rattle.set_edit.proofs.Moves.{add-none, add-all, add-one-layer, remove-none, remove-some, climb-some}
+use Rattle.set_edit.proofs.Steps.{edited, first}
 
--- ---- the private steps
+-- ---- the private steps: by the layer-0 word as it was, w, and with the bit set or cleared, v
 
-module _ {s : List ℕ} {N i : ℕ} where
-  pub kept-held : holds N s i ≡ true → Moved true s N i (addLayers N s i) s true
-  unfolding edits
-  kept-held h = record { memory = ap (edits true N s i) (sym (add-none N s i (eqb-true _ 1 h))); answer = sym h }
+-- the answer that is read off the number of layers
+abbrev pub saysHeld : Bool → ℕ → Bool
+saysHeld true m = eqb m 0
+saysHeld false m = not (eqb m 0)
 
-  pub set-all : {t : List ℕ} → holds N s i ≡ false → word N s 0 (i / 64) ≡ 0 → t ≡ edits true N s i (suc (top N))
-      → Moved true s N i (addLayers N s i) t false
-  set-all h w e = record { memory = e ∙ ap (edits true N s i) (sym (add-all N s i (eqb-false _ 1 h) w)); answer = sym h }
+module _ (N : ℕ) (s : List ℕ) (i : ℕ) where
+  abbrev old : ℕ
+  old = word N s 0 (i / 64)
 
-  pub set-one : {t : List ℕ} → holds N s i ≡ false → word N s 0 (i / 64) ≢ 0 → t ≡ edits true N s i 1
-      → Moved true s N i (addLayers N s i) t false
-  set-one h w e = record { memory = e ∙ ap (edits true N s i) (sym (add-one-layer N s i (eqb-false _ 1 h) w)); answer = sym h }
+  pub none-added : on N s 0 i ≡ 1 → Moved true s N i s 0
+  unfolding movedBy edits
+  none-added h = record { memory = ap (edits true N s i) (sym (add-none N s i h)); layers = sym (add-none N s i h) }
 
-  pub kept-absent : holds N s i ≡ false → Moved false s N i (removeLayers N s i) s false
-  unfolding edits
-  kept-absent h = record { memory = ap (edits false N s i) (sym (remove-none N s i (eqb-false _ 1 h))); answer = sym h }
+  pub none-removed : on N s 0 i ≡ 0 → Moved false s N i s 0
+  unfolding movedBy edits
+  none-removed h =
+      let e = remove-none N s i (λ q. omega (arith, h, q)) in
+      record { memory = ap (edits false N s i) (sym e); layers = sym e }
 
-  pub gone : {t : List ℕ} → holds N s i ≡ true → t ≡ edits false N s i (climb N s i 0 (top N))
-      → Moved false s N i (removeLayers N s i) t true
-  gone h e = record { memory = e ∙ ap (edits false N s i) (sym (remove-some N s i (eqb-true _ 1 h))); answer = sym h }
+  pub one-added : {t : List ℕ} → on N s 0 i ≢ 1 → old ≢ 0 → Begun true s N i 1 t → Moved true s N i t 1
+  unfolding movedBy
+  one-added h w g = let e = add-one-layer N s i h w in record { memory = g .memory ∙ ap (edits true N s i) (sym e); layers = sym e }
+
+  pub all-added : {t : List ℕ} {r : ℕ} → on N s 0 i ≢ 1 → old ≡ 0 → Ended true s N i (suc (top N)) t r → Moved true s N i t r
+  unfolding movedBy
+  all-added h w g = let e = add-all N s i h w in record { memory = g .memory ∙ ap (edits true N s i) (sym e); layers = g .layers ∙ sym e }
+
+  pub some-removed : {t : List ℕ} {r : ℕ} → on N s 0 i ≢ 0 → Ended false s N i (climb N s i 0 (top N)) t r → Moved false s N i t r
+  unfolding movedBy
+  some-removed h g =
+      let e = remove-some N s i (omega (arith, h, on-lt N s 0 i)) in
+      record { memory = g .memory ∙ ap (edits false N s i) (sym e); layers = g .layers ∙ sym e }
+
+  -- whether it was held
+  pub held-is : (set : Bool) → saysHeld set (layersOf set N s i) ≡ holds N s i
+  held-is set = go set (ℕ-discrete (on N s 0 i) 1) (ℕ-discrete old 0)
+    where
+      go : (x : Bool) → Dec (on N s 0 i ≡ 1) → Dec (old ≡ 0) → saysHeld x (layersOf x N s i) ≡ holds N s i
+      go true (yes h) d = rw (add-none N s i h, eq-eqb (on N s 0 i) 1 h)
+      go true (no h) (yes w) = rw (add-all N s i h w, ne-eqb (suc (top N)) 0 (λ e. omega arith), ne-eqb (on N s 0 i) 1 h)
+      go true (no h) (no w) = rw (add-one-layer N s i h w, ne-eqb (on N s 0 i) 1 h)
+      go false (yes h) d =
+          let c : climb N s i 0 (top N) ≢ 0 = climb-some N s i 0 (top N) in
+          rw (remove-some N s i h, ne-eqb (climb N s i 0 (top N)) 0 c, eq-eqb (on N s 0 i) 1 h)
+      go false (no h) d = rw (remove-none N s i h, ne-eqb (on N s 0 i) 1 h)
+
+-- the id has its place, and v is its word w with its bit set or cleared
+module _ {s : List ℕ} {i N a w : ℕ} (z : Inside s i N a w) (set : Bool) {v : ℕ} (e : v ≡ change set w (i % 64)) where
+  -- the word stays as it is exactly if the bit is so already
+  pub bit-so : v ≡ w → on N s 0 i ≡ cond set 1 0
+  unfolding on
+  bit-so q = sym (ap (λ (x : ℕ). bit x (i % 64)) (z .word-is)) ∙ kept-change set w (i % 64) (omega arith) (sym e ∙ q)
+
+  pub bit-not-so : w < 2 ^ 64 → v ≢ w → on N s 0 i ≢ cond set 1 0
+  unfolding on
+  bit-not-so small n q = n (e ∙ change-kept set w (i % 64) (omega arith) small (ap (λ (x : ℕ). bit x (i % 64)) (z .word-is) ∙ q))
+
+  -- it is written to layer 0
+  pub id-edited : {t : List ℕ} → t ≡ set-at s (a + i / 64) v → Edited set s N i 0 t v
+  unfolding anc
+  id-edited t-is = edited (z .placed) (z .start-is) refl set (e ∙ ap (λ (x : ℕ). change set x (i % 64)) (z .word-is)) t-is
+
+  pub id-begun : {t : List ℕ} → t ≡ set-at s (a + i / 64) v → Begun set s N i 1 t
+  id-begun t-is = first set (z .placed) (id-edited t-is)
+
+pub id-inside : {s : List ℕ} {i N a w : ℕ} → Inside s i N a w → a + i / 64 < length s
+id-inside {s} {i} {N} z =
+    let f = id-word (z .placed .store) (z .placed .below) (z .start-is) in
+    omega (arith, f .here, f .inside, z .start-is)
 
 -- ---- one id: in no store, past the end of one, and in one
 
@@ -57,10 +114,12 @@ module _ (s : List ℕ) (i : ℕ) where
     unfolding moveOf
     change-past o = settled (rw (is-store (o .store), o .store .names, o .past))
 
-    pub change-is : (N : ℕ) → Placed s N i 0 → (r : Bool) (t : List ℕ) → Moved set s N i (layersOf set N s i) t r
-        → Settled askedPaper (moveOf set (stays past s) s i) (Is r) t
+    pub change-is : (N : ℕ) → Placed s N i 0 → (r : ℕ) (t : List ℕ) → Moved set s N i t r
+        → Settled askedPaper (moveOf set (stays past s) s i) (Is (saysHeld set r)) t
     unfolding moveOf
-    change-is N z r t m = settled (rw (is-store (z .store), z .store .names, lt-ltb i N (z .below), ← m .answer, ← m .memory))
+    change-is N z r t m =
+        let e : saysHeld set r ≡ holds N s i = ap (saysHeld set) (m .layers) ∙ held-is N s i set in
+        settled (rw (is-store (z .store), z .store .names, lt-ltb i N (z .below), ← e, ← m .memory))
 
 -- ---- a list of ids
 
@@ -74,7 +133,7 @@ unfolding allBelow
 below-end N ids k h = ap (allBelow N) (ap (λ (x : ℕ). drop x ids) h ∙ drop-length ids)
 
 pub add-turn : (N : ℕ) (s ids : List ℕ) (k : ℕ) → k < length ids
-    → addAll N s (drop k ids) ≡ addAll N (edits true N s (getD ids k 0) (addLayers N s (getD ids k 0))) (drop (suc k) ids)
+    → addAll N s (drop k ids) ≡ addAll N (movedBy true N s (getD ids k 0)) (drop (suc k) ids)
 unfolding addAll
 add-turn N s ids k h = ap (addAll N s) (drop-cons ids k 0 h)
 

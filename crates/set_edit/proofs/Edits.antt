@@ -8,10 +8,12 @@ use native.Mathlib.Decide.{ℕ-discrete}
 use native.Mathlib.Omega.{arith}
 use lib.ListN.{length, getD}
 use Rattle.util.specs.Word.{change}
-use Rattle.store.specs.Layout.{header, top, layerLen, storeLen, cap}
-use Rattle.store.specs.Word.{word, anc, put}
-use Rattle.store.proofs.Words.{place-in, anc-in, length-put, header-put, word-put-same, word-put-other}
-use Rattle.set_edit.specs.Edit.{edit, edits}
+use Rattle.util.proofs.Bits.{change-lt}
+use Rattle.store.specs.Layout.{header, top, layerLen, storeLen, cap, StoreOf}
+use Rattle.store.specs.Word.{word, anc, put, Words64}
+use Rattle.store.proofs.Geometry.{store-kept}
+use Rattle.store.proofs.Words.{word-lt, words-put, place-in, anc-in, length-put, header-put, word-put-same, word-put-other}
+use Rattle.set_edit.specs.Edit.{edit, edits, layersOf, movedBy}
 
 module _ (b : Bool) (N : ℕ) (s : List ℕ) (i : ℕ) where
   pub length-edits : (m : ℕ) → length (edits b N s i m) ≡ length s
@@ -61,3 +63,29 @@ module _ (b : Bool) (N : ℕ) (s : List ℕ) (i : ℕ) where
         go rest (no n) =
             word-put-other N (edits b N s i m) (length-edits m ∙ long) m (anc i m / 64) w (omega arith) (word-in-layer m) k (anc i k / 64) (omega arith) (λ e x. n e)
             ∙ rest (omega arith)
+
+-- ---- the store that adding, or removing, leaves
+
+module _ (b : Bool) (N : ℕ) (s : List ℕ) (i : ℕ) where
+  pub length-moved : length (movedBy b N s i) ≡ length s
+  unfolding movedBy
+  length-moved = length-edits b N s i (layersOf b N s i)
+
+  pub cap-moved : cap (movedBy b N s i) ≡ cap s
+  unfolding movedBy
+  cap-moved = cap-edits b N s i (layersOf b N s i)
+
+  pub store-moved : {M : ℕ} → StoreOf M s → StoreOf M (movedBy b N s i)
+  store-moved z = store-kept z length-moved cap-moved
+
+  words-edits : (m : ℕ) → Words64 s → Words64 (edits b N s i m)
+  unfolding edits edit
+  words-edits zero small = small
+  words-edits (suc m) small =
+      let t = edits b N s i m in
+      let k = words-edits m small in
+      words-put N t k m (anc i m / 64) _ (change-lt b (word N t m (anc i m / 64)) (anc i m % 64) (omega arith) (word-lt N t k m (anc i m / 64)))
+
+  pub words-moved : Words64 s → Words64 (movedBy b N s i)
+  unfolding movedBy
+  words-moved = words-edits (layersOf b N s i)

@@ -1,8 +1,10 @@
 -- The layers that adding and removing write, case by case.
 use mathlib.Core.List.{List}
 use mathlib.Core.Logic.{_≢_}
-use mathlib.Core.Path.{_≡_, refl}
+use mathlib.Core.Path.{_≡_, refl, sym, _∙_}
 use Prim.Native.Nat.{ℕ, zero, suc, _/_}
+use native.Mathlib.Decide.{ℕ-discrete}
+use native.Mathlib.Omega.{arith}
 use borrow.Author.Tests.{eq-eqb, ne-eqb}
 use Rattle.store.specs.Layout.{top}
 use Rattle.store.specs.Word.{word, on}
@@ -42,3 +44,12 @@ module _ (N : ℕ) (s : List ℕ) (i : ℕ) where
   pub climb-top : (k : ℕ) → climb N s i k 0 ≡ suc k
   unfolding climb
   climb-top k = refl
+
+  -- it writes a layer at least
+  pub climb-some : (k d : ℕ) → climb N s i k d ≢ 0
+  climb-some k zero e = omega (arith, sym (climb-top k) ∙ e)
+  climb-some k (suc d) e = go (climb-some (suc k) d) (ℕ-discrete (wordLeft N s i k) 0)
+    where
+      go : climb N s i (suc k) d ≢ 0 → Dec (wordLeft N s i k ≡ 0) → ⊥
+      go rest (yes w) = rest (sym (climb-on k d w) ∙ e)
+      go rest (no w) = omega (arith, sym (climb-stop k (suc d) w) ∙ e)

@@ -1,5 +1,4 @@
--- What each call that changes ids does, for all inputs. Document 01, "Calls on one store", and its refusals. What `contains` says is
--- passed on with it.
+-- What each call that changes ids does, for all inputs. Document 01, "Calls on one store", and its refusals.
 use mathlib.Core.Bool.{Bool, true, false, cond, _&&_}
 use mathlib.Core.List.{List, [], _∷_}
 use Prim.Native.Nat.{ℕ}
@@ -9,8 +8,7 @@ use Rattle.store.specs.Answer.{askedPaper, says, does, refuses}
 use Rattle.store.specs.Layout.{cap, isStore}
 use Rattle.store.specs.declared.Asked.{Asked}
 use Rattle.set_member.specs.Calls.{holds}
-unfoldable pub use Rattle.set_member.specs.Calls.{containsOf}
-use Rattle.set_edit.specs.Edit.{edits, addLayers, layersOf}
+use Rattle.set_edit.specs.Edit.{movedBy}
 
 -- an answer that changes nothing
 abbrev pub stays : Asked → List ℕ → Outcome (List ℕ)
@@ -21,7 +19,7 @@ unfoldable pub moveOf : Bool → Outcome (List ℕ) → List ℕ → ℕ → Out
 moveOf set past s i =
     let N = cap s in
     cond (isStore s)
-    (cond (ltb i N) (says (holds N s i) (edits set N s i (layersOf set N s i))) past)
+    (cond (ltb i N) (says (holds N s i) (movedBy set N s i)) past)
     (refuses 2 s)
 
 -- "`add` answers whether the id was held already." Refusal 3: "an id at or past N".
@@ -39,7 +37,7 @@ allBelow N (i ∷ l) = ltb i N && allBelow N l
 
 unfoldable pub addAll : ℕ → List ℕ → List ℕ → List ℕ
 addAll N s [] = s
-addAll N s (i ∷ l) = addAll N (edits true N s i (addLayers N s i)) l
+addAll N s (i ∷ l) = addAll N (movedBy true N s i) l
 
 unfoldable pub addListOf : List ℕ → List ℕ → Outcome (List ℕ)
 addListOf s ids =

@@ -2,10 +2,9 @@
 -- go by the number of layers that they write.
 use mathlib.Core.Bool.{Bool, true, false, cond}
 use mathlib.Core.List.{List}
-use mathlib.Core.Path.{_≡_}
 use Prim.Native.Nat.{ℕ, zero, suc, _/_, _%_}
 use lib.Dec.{eqb}
-use lib.ListN.{getD, set}
+use lib.ListN.{set}
 use Rattle.util.specs.Word.{change}
 use Rattle.store.specs.Layout.{top}
 use Rattle.store.specs.Word.{word, anc, put}
@@ -44,18 +43,6 @@ abbrev pub layersOf : Bool → ℕ → List ℕ → ℕ → ℕ
 layersOf true = addLayers
 layersOf false = removeLayers
 
--- ---- what the private steps leave: s is a store of capacity N, with room for id i
-
--- bit b of word i of a layer is set, or cleared, and r is the word that it leaves
-pub record Written (on : Bool) (l : List ℕ) (i b : ℕ) (m : List ℕ) (r : ℕ) : Type 0 where
-  pub answer : r ≡ change on (getD l i 0) (b % 64)
-  pub memory : m ≡ set l i r
-
-pub record Edited (set : Bool) (s : List ℕ) (N i k : ℕ) (t : List ℕ) (r : ℕ) : Type 0 where
-  pub memory : t ≡ edit set N s k (anc i k)
-  pub answer : r ≡ word N t k (anc i k / 64)
-
--- the bit over i is set, or cleared, in the m lowest layers, and r says whether i was held
-pub record Moved (set : Bool) (s : List ℕ) (N i m : ℕ) (t : List ℕ) (r : Bool) : Type 0 where
-  pub memory : t ≡ edits set N s i m
-  pub answer : r ≡ holds N s i
+-- the store that adding, or removing, id i leaves
+unfoldable pub movedBy : Bool → ℕ → List ℕ → ℕ → List ℕ
+movedBy set N s i = edits set N s i (layersOf set N s i)

@@ -1,28 +1,35 @@
-// Changing the set over one lent store: the Rust's lib.rs, `BitSet`. Every call tests the store itself and refuses by number. `contains`
-// of `members` is passed on, for the calls for C.
+// Changing the set over one lent store: the Rust's lib.rs, `BitSet`. Every call tests the store itself and refuses by number. A private step
+// answers how many layers it wrote.
 ghost use mathlib.Core.Bool.{true, false};
+ghost use mathlib.Core.List.{List};
 ghost use mathlib.Core.Path.{_≡_};
-ghost use Prim.Native.Nat.{suc, _<_};
-ghost use lib.ListN.{length};
+ghost use Prim.Native.Nat.{ℕ, suc, _+_, _/_, _<_};
+ghost use lib.ListN.{length, set};
 ghost use Rattle.util.specs.Outcome.{Settled};
 ghost use Rattle.store.specs.Answer.{askedPaper, didPaper};
 ghost use Rattle.store.specs.Layout.{top, StoreOf};
 ghost use Rattle.set_member.specs.Place.{Placed, Inside};
 ghost use Rattle.set_edit.specs.Calls.{addOf, removeOf, allBelow, addAll, addListOf};
-ghost use Rattle.set_edit.specs.Edit.{edits, addLayers, climb, removeLayers, Written, Edited, Moved};
+ghost use Rattle.set_edit.specs.Edit.{climb};
+ghost use Rattle.set_edit.specs.Steps.{Edited, Begun, Climbing, Ended, Moved};
 use set_member::Place;
-pub use set_member::contains;
 use store::Asked;
 use store::Did;
 
-// The word-writing leaf: a bit of word i of a layer, lent as a part of its store, set or cleared; answers the word that it leaves.
-fn set_bit(layer: &mut [u64], i: usize, b: usize, on: bool) -> u64
+// The word-writing leaf: word i of a layer, lent as a part of its store, becomes w.
+fn set_word(layer: &mut [u64], i: usize, w: u64)
     requires { ⌜ i < length (now layer) ⌝ }
-    ensures { λ r. ⌜ Written on (now (layer .entry)) i b (now (layer .exit)) r ⌝ }
+    ensures { λ r. ⌜ now (layer .exit) ≡ set (now (layer .entry)) i w ⌝ }
 {
-    let w = util::with_bit(layer[i], b, on);
     layer[i] = w;
-    w
+}
+
+// The layer-0 word of an id becomes w, where layer 0 starts at a.
+fn set_id_word(store: &mut [u64], a: usize, id: u32, w: u64)
+    requires { ⌜ a + id / 64 < length (now store) ⌝ }
+    ensures { λ r. ⌜ now (store .exit) ≡ set (now (store .entry)) (a + id / 64) w ⌝ }
+{
+    set_word(&mut store[a..], util::offset(id, util::SHIFT1), w);
 }
 
 // The bit over an id set, or cleared, in layer k; answers the word that it leaves.
@@ -30,68 +37,77 @@ fn edit(store: &mut [u64], n: usize, id: u32, k: usize, on: bool) -> u64
     requires { ⌜ Placed (now store) n id k ⌝ }
     ensures { λ r. ⌜ Edited on (now (store .entry)) n id k (now (store .exit)) r ⌝ }
 {
-    let up = k + 1;
-    let a = store::end(n, up);
-    let e = store::end(n, k);
-    let q = util::offset(id, 6 * up);
+    let a = store::start(store.len(), n, k);
+    let q = util::offset(id, 6 * (k + 1));
     let b = util::offset(id, 6 * k);
-    set_bit(&mut store[a..e], q, b, on)
+    let w = util::with_bit(store[a + q], b, on);
+    set_word(&mut store[a..], q, w);
+    w
 }
 
-// The bit over an id set in every layer. A literal layer number lets the compiler fold the layer's place.
-fn mark(store: &mut [u64], n: usize, id: u32)
-    requires { ⌜ Placed (now store) n id 0 ⌝ }
-    ensures { λ r. ⌜ now (store .exit) ≡ edits true n (now (store .entry)) id (suc (top n)) ⌝ }
+// The bit over an id set in every layer above 0, where layer 0 has it; answers how many layers have it now.
+fn mark(store: &mut [u64], n: usize, id: u32) -> usize
+    requires { ⌜ ((s : List ℕ) × Begun true s n id 1 (now store)) ⌝ }
+    ensures { λ r. ⌜ ((s : List ℕ) → Begun true s n id 1 (now (store .entry)) → Ended true s n id (suc (top n)) (now (store .exit)) r) ⌝ }
 {
-    edit(store, n, id, 0, true);
-    edit(store, n, id, 1, true);
-    edit(store, n, id, 2, true);
-    edit(store, n, id, 3, true);
+    let t = store::top(n);
+    let mut k = 1usize;
+    while k <= t {
+        edit(store, n, id, k, true);
+        k += 1;
+    }
+    k
 }
 
-// The bit over an id cleared in layer 0 and, while words become 0, in the layer above.
-fn unmark(store: &mut [u64], n: usize, id: u32)
-    requires { ⌜ Placed (now store) n id 0 ⌝ }
-    ensures { λ r. ⌜ now (store .exit) ≡ edits false n (now (store .entry)) id (climb n (now (store .entry)) id 0 (top n)) ⌝ }
+// The bit over an id cleared in the layers above 0 while words become 0, where layer 0 lost it and its last one; answers how many
+// layers lost it.
+fn unmark(store: &mut [u64], n: usize, id: u32) -> usize
+    requires { ⌜ ((s : List ℕ) × Climbing s n id 1 (now store)) ⌝ }
+    ensures { λ r. ⌜ ((s : List ℕ) → Climbing s n id 1 (now (store .entry))
+        → Ended false s n id (climb n s id 0 (top n)) (now (store .exit)) r) ⌝ }
 {
-    if edit(store, n, id, 0, false) != 0 {
-        return;
+    let t = store::top(n);
+    let mut k = 1usize;
+    while k <= t {
+        if edit(store, n, id, k, false) != 0 {
+            return k + 1;
+        }
+        k += 1;
     }
-    if edit(store, n, id, 1, false) != 0 {
-        return;
-    }
-    if edit(store, n, id, 2, false) != 0 {
-        return;
-    }
-    edit(store, n, id, 3, false);
+    k
 }
 
-// The crate's `add` and `add_slow`: layer 0 or, where its old word was 0, every layer is written; answers whether the id was held.
-fn add_in(store: &mut [u64], n: usize, id: u32, old: u64) -> bool
-    requires { ⌜ Inside (now store) id n old ⌝ }
-    ensures { λ r. ⌜ Moved true (now (store .entry)) n id (addLayers n (now (store .entry)) id) (now (store .exit)) r ⌝ }
+// The crate's `add` and `add_slow`: layer 0, which starts at a, or, where its old word was 0, every layer is written; answers how many
+// are.
+fn add_in(store: &mut [u64], n: usize, a: usize, id: u32, old: u64) -> usize
+    requires { ⌜ Inside (now store) id n a old ⌝ }
+    ensures { λ r. ⌜ Moved true (now (store .entry)) n id (now (store .exit)) r ⌝ }
 {
-    if util::is_set(old, id as usize) {
-        return true;
+    let w = util::with_bit(old, id as usize, true);
+    if w == old {
+        return 0;
     }
+    set_id_word(store, a, id, w);
     if old != 0 {
-        edit(store, n, id, 0, true);
-        return false;
+        return 1;
     }
-    mark(store, n, id);
-    false
+    mark(store, n, id)
 }
 
-// The crate's `remove`; answers whether the id was held.
-fn remove_in(store: &mut [u64], n: usize, id: u32, old: u64) -> bool
-    requires { ⌜ Inside (now store) id n old ⌝ }
-    ensures { λ r. ⌜ Moved false (now (store .entry)) n id (removeLayers n (now (store .entry)) id) (now (store .exit)) r ⌝ }
+// The crate's `remove`: layer 0 and, while words become 0, the layers above are written; answers how many are.
+fn remove_in(store: &mut [u64], n: usize, a: usize, id: u32, old: u64) -> usize
+    requires { ⌜ Inside (now store) id n a old ⌝ }
+    ensures { λ r. ⌜ Moved false (now (store .entry)) n id (now (store .exit)) r ⌝ }
 {
-    if !util::is_set(old, id as usize) {
-        return false;
+    let w = util::with_bit(old, id as usize, false);
+    if w == old {
+        return 0;
     }
-    unmark(store, n, id);
-    true
+    set_id_word(store, a, id, w);
+    if w != 0 {
+        return 1;
+    }
+    unmark(store, n, id)
 }
 
 // Adds an id; answers whether it was held already.
@@ -99,7 +115,7 @@ pub fn add(store: &mut [u64], id: u32) -> Asked
     ensures { λ r. ⌜ Settled askedPaper (addOf (now (store .entry)) id) r (now (store .exit)) ⌝ }
 {
     match set_member::locate(store, id) {
-        Place::In(n, old) => Asked::Is(add_in(store, n, id, old)),
+        Place::In(n, a, old) => Asked::Is(add_in(store, n, a, id, old) == 0),
         Place::Past => Asked::Refused(3),
         Place::Nowhere => Asked::Refused(2),
     }
@@ -110,7 +126,7 @@ pub fn remove(store: &mut [u64], id: u32) -> Asked
     ensures { λ r. ⌜ Settled askedPaper (removeOf (now (store .entry)) id) r (now (store .exit)) ⌝ }
 {
     match set_member::locate(store, id) {
-        Place::In(n, old) => Asked::Is(remove_in(store, n, id, old)),
+        Place::In(n, a, old) => Asked::Is(remove_in(store, n, a, id, old) != 0),
         Place::Past => Asked::Is(false),
         Place::Nowhere => Asked::Refused(2),
     }
@@ -135,11 +151,12 @@ fn add_all(store: &mut [u64], n: usize, ids: &[u32])
     requires { ⌜ (StoreOf n (now store)) × (allBelow n (now ids) ≡ true) ⌝ }
     ensures { λ r. ⌜ now (store .exit) ≡ addAll n (now (store .entry)) (now (ids .entry)) ⌝ }
 {
+    let a = store::start(store.len(), n, 0);
     let mut i = 0;
     while i < ids.len() {
         let id = ids[i];
-        let old = store[store::end(n, 1) + util::offset(id, util::SHIFT1)];
-        add_in(store, n, id, old);
+        let old = store[store::id_word(a, id)];
+        add_in(store, n, a, id, old);
         i += 1;
     }
 }

@@ -7,51 +7,37 @@ use mathlib.Core.Path.{_≡_, refl, sym, ap, _∙_, subst}
 use Prim.Native.Nat.{ℕ, suc, _+_, _-_, _/_, _%_, _≤_, _<_}
 use native.Mathlib.Decide.{ℕ-discrete}
 use native.Mathlib.Omega.{arith}
-use lib.ListN.{length, getD, take, drop, length-drop}
-use lib.Seq.{take-all}
+use lib.ListN.{length, getD, take, drop}
 use Rattle.util.specs.Outcome.{Outcome, Settled, settled}
 use Rattle.util.specs.Word.{bit, places, Rising}
 use Rattle.util.proofs.Places.{places-same, places-none, places-in, in-places, places-rising}
 use Rattle.store.specs.Answer.{foundPaper, gives, refuses}
 use Rattle.store.specs.Build.{layer0}
-use Rattle.store.specs.Layout.{maxCap, words, room, layerLen, layerStart, cap, isStore, StoreOf}
+use Rattle.store.specs.Layout.{maxCap, cap, isStore, StoreOf, startFrom}
 use Rattle.store.specs.Word.{on, Member, Words64}
 use Rattle.store.specs.declared.Found.{Found as Answer}
 use Rattle.store.specs.declared.Found.the-variants.{Refused}
 use Rattle.store.proofs.Build.{word-layer0}
-use Rattle.store.proofs.Geometry.{is-store, store-is, end-step}
+use Rattle.store.proofs.Ends.{lent0}
+use Rattle.store.proofs.Geometry.{is-store, store-is, room-closed}
 use Rattle.store.proofs.Words.{on-lt}
 use Rattle.set_free.specs.Calls.{searchStart, freeFrom, firstOf, firstFreeOf, LowestFree}
 use Rattle.set_free.specs.Steps.{freeAt, freeIn, Small}
 
 -- ---- layer 0, as the code lends it
 
-module _ {N : ℕ} {s : List ℕ} (z : StoreOf N s) where
-  -- the store ends with the words of layer 0
-  pub words-in : words N ≤ length s
-  unfolding room
-  words-in = omega (arith, z .long, end-step N 0 (omega arith))
-
-  lent : take (length s - (length s - words N)) (drop (length s - words N) s) ≡ layer0 N s
-  unfolding room
-  lent =
-      let a : length s - words N ≡ layerStart N 0 = omega (arith, z .long, end-step N 0 (omega arith)) in
-      take-all (length s - (length s - words N)) (drop (length s - words N) s) (omega (arith, length-drop (length s - words N) s))
-      ∙ ap (λ (x : ℕ). drop x s) a
-
-  pub lent-small : {first : ℕ} → first ≤ maxCap → Small (take (length s - (length s - words N)) (drop (length s - words N) s)) N first
-  unfolding room
+module _ {N : ℕ} {s : List ℕ} (z : StoreOf N s) {a : ℕ} (e : a ≡ startFrom (length s) N 0) where
+  pub lent-small : {first : ℕ} → first ≤ maxCap → Small (take (length s - a) (drop a s)) N first
   lent-small h =
-      let n : length (layer0 N s) ≡ layerLen N 0 = length-drop (layerStart N 0) s ∙ omega (arith, z .long, end-step N 0 (omega arith)) in
-      record { most = z .most; first-in = h; long = omega (arith, ap length lent, n, z .most) }
+      let l = lent0 z e in
+      record { most = z .most; first-in = h; long = omega (arith, ap length (l .words), l .long, room-closed N 1, z .most) }
 
   pub answered : Words64 s → {r : Answer}
-      → Settled foundPaper (firstOf (freeIn (take (length s - (length s - words N)) (drop (length s - words N) s)) N searchStart)) r tt
-      → Settled foundPaper (firstFreeOf s) r tt
+      → Settled foundPaper (firstOf (freeIn (take (length s - a) (drop a s)) N searchStart)) r tt → Settled foundPaper (firstFreeOf s) r tt
   unfolding firstFreeOf freeFrom on
   answered small {r} h =
       subst (λ (o : Outcome (Unit {0})). Settled foundPaper o r tt)
-      (ap firstOf (ap (λ (x : List ℕ). freeIn x N searchStart) lent ∙ ap (λ (n : ℕ). freeIn (layer0 n s) n searchStart) (sym (z .names))
+      (ap firstOf (ap (λ (x : List ℕ). freeIn x N searchStart) (lent0 z e .words) ∙ ap (λ (n : ℕ). freeIn (layer0 n s) n searchStart) (sym (z .names))
       ∙ places-same (freeAt (layer0 (cap s) s)) (λ i. 1 - on (cap s) s 0 i) searchStart (cap s - searchStart)
       (λ i a b. ap (λ (w : ℕ). 1 - bit w (i % 64)) (word-layer0 s (store-is (is-store z)) small (i / 64))))
       ∙ sym (ap (λ (b : Bool). cond b (firstOf (freeFrom (cap s) s searchStart)) (refuses 2 tt)) (is-store z)))

@@ -21,7 +21,7 @@ use Rattle.store.specs.Answer.{foundPaper}
 use Rattle.store.specs.Word.{Words64}
 use Rattle.store.specs.declared.Found.the-variants.{At, Refused}
 use Rattle.set_free.specs.Calls.{firstOf}
-use Rattle.set_free.specs.Steps.{full, FullIn, Skipped, Opened, answerOf, freeAt, freeIn}
+use Rattle.set_free.specs.Steps.{full, FullIn, Skipped, Opened, foundOf, freeAt, freeIn}
 
 -- ---- words that are full
 
@@ -136,8 +136,8 @@ module _ (ws : List ℕ) (q t : ℕ) (h : t < 64) (small : getD ws q 0 ≤ full)
 
 -- id p is free and none before it from `first` on
 found-at : (f : ℕ → ℕ) (n first p : ℕ) → first ≤ p → ((i : ℕ) → first ≤ i → i < p → f i ≡ 0) → f p ≢ 0
-    → Settled foundPaper (firstOf (places f first (n - first))) (answerOf n p) tt
-unfolding answerOf
+    → Settled foundPaper (firstOf (places f first (n - first))) (foundOf n p) tt
+unfolding foundOf
 found-at f n first p l zeros some = go (decLt p n)
   where
     go : Dec (p < n) → Settled foundPaper (firstOf (places f first (n - first))) (cond (ltb p n) (At p) (Refused 12)) tt
@@ -157,11 +157,11 @@ module _ (ws : List ℕ) (n first : ℕ) where
 
   -- in the word of the first id
   pub own-word : (w : ℕ) → w ≡ getD ws (first / 64) 0 → w ≤ full → (full - w) / 2 ^ (first % 64) ≢ 0
-      → Settled foundPaper (firstOf (freeIn ws n first)) (answerOf n (first + trailingZeros 64 ((full - w) / 2 ^ (first % 64)))) tt
+      → Settled foundPaper (firstOf (freeIn ws n first)) (foundOf n (first + trailingZeros 64 ((full - w) / 2 ^ (first % 64)))) tt
   own-word w w-is small some = rw w-is (go (λ e. some (ap (λ (x : ℕ). (full - x) / 2 ^ t) w-is ∙ e)) (omega arith))
     where
       go : (full - getD ws q 0) / 2 ^ t ≢ 0 → getD ws q 0 ≤ full
-          → Settled foundPaper (firstOf (freeIn ws n first)) (answerOf n (first + trailingZeros 64 ((full - getD ws q 0) / 2 ^ t))) tt
+          → Settled foundPaper (firstOf (freeIn ws n first)) (foundOf n (first + trailingZeros 64 ((full - getD ws q 0) / 2 ^ t))) tt
       go some small =
           let l = first-left ws q t (omega arith) small some in
           let b : ℕ = trailingZeros 64 ((full - getD ws q 0) / 2 ^ t) in
@@ -171,7 +171,7 @@ module _ (ws : List ℕ) (n first : ℕ) where
   -- in the next word that is not full
   pub next-word : (w p v : ℕ) → w ≡ getD ws (first / 64) 0 → w ≤ full → (full - w) / 2 ^ (first % 64) ≡ 0
       → Opened ws (first / 64 + 1) p → v ≡ getD ws p 0 → v ≤ full
-      → Settled foundPaper (firstOf (freeIn ws n first)) (answerOf n (64 * p + trailingZeros 64 (full - v))) tt
+      → Settled foundPaper (firstOf (freeIn ws n first)) (foundOf n (64 * p + trailingZeros 64 (full - v))) tt
   next-word w p v w-is small none o v-is small-v = rw v-is (go (omega arith) (λ e. o .some (omega arith)))
     where
       full-id : (i : ℕ) → getD ws (i / 64) 0 ≡ full → freeAt ws i ≡ 0
@@ -189,7 +189,7 @@ module _ (ws : List ℕ) (n first : ℕ) where
       at b taken i a u (no l) = taken i (omega arith) (omega arith)
 
       go : getD ws p 0 ≤ full → full - getD ws p 0 ≢ 0
-          → Settled foundPaper (firstOf (freeIn ws n first)) (answerOf n (64 * p + trailingZeros 64 (full - getD ws p 0))) tt
+          → Settled foundPaper (firstOf (freeIn ws n first)) (foundOf n (64 * p + trailingZeros 64 (full - getD ws p 0))) tt
       go small some =
           let z : (full - getD ws p 0) / 2 ^ 0 ≡ full - getD ws p 0 = div-one (full - getD ws p 0) in
           let b : ℕ = trailingZeros 64 (full - getD ws p 0) in

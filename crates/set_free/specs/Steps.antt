@@ -31,8 +31,8 @@ pub record Opened (ws : List ℕ) (q r : ℕ) : Type 0 where
   pub some : getD ws r 0 ≢ full
 
 -- id i, or refusal 12 if it is none below n
-unfoldable pub answerOf : ℕ → ℕ → Found
-answerOf n i = cond (ltb i n) (At i) (Refused 12)
+unfoldable pub foundOf : ℕ → ℕ → Found
+foundOf n i = cond (ltb i n) (At i) (Refused 12)
 
 -- 1 where id i is free
 abbrev pub freeAt : List ℕ → ℕ → ℕ

@@ -6,7 +6,7 @@ ghost use Rattle.util.specs.Outcome.{Settled};
 ghost use Rattle.store.specs.Answer.{foundPaper};
 ghost use Rattle.store.specs.Layout.{maxCap};
 ghost use Rattle.set_free.specs.Calls.{firstOf, firstFreeOf};
-ghost use Rattle.set_free.specs.Steps.{full, FullIn, Skipped, Opened, Small, answerOf, freeIn};
+ghost use Rattle.set_free.specs.Steps.{full, FullIn, Skipped, Opened, Small, foundOf, freeIn};
 use store::Found;
 
 // A word with every bit set.
@@ -56,7 +56,7 @@ fn open_word(layer: &[u64], q: usize) -> usize
 // The id, if it is below n.
 fn answer(id: usize, n: usize) -> Found
     requires { ⌜ n ≤ maxCap ⌝ }
-    ensures { λ r. ⌜ r ≡ answerOf n id ⌝ }
+    ensures { λ r. ⌜ r ≡ foundOf n id ⌝ }
 {
     if id < n {
         let i = id as u32;
@@ -89,6 +89,6 @@ pub fn first_free(store: &[u64]) -> Found
     if n == 0 {
         return Found::Refused(2);
     }
-    let a = store.len() - (n + 63) / 64;
+    let a = store::start(store.len(), n, 0);
     search(&store[a..], n, SEARCH_START)
 }

@@ -40,16 +40,16 @@ module _ (b : Bool) (N : ℕ) (s : List ℕ) (i : ℕ) (long : length s ≡ stor
       → ((k : ℕ) → k < top N → (on N (edits b N s i m) (suc k) (anc i (suc k)) ≡ 1) ↔ (word N (edits b N s i m) k (anc i (suc k)) ≢ 0))
       → Sound N (edits b N s i m)
   unfolding anc
-  sound-edits m hm z way = record { inside = inside; exact = λ k q h. exact k q h (ℕ-discrete q (anc i (suc k))) }
+  sound-edits m hm z way = record { layers = record { inside = inside; exact = λ k q h. exact k q h (ℕ-discrete q (anc i (suc k))) } }
     where
       inside : (k p : ℕ) → k ≤ top N → on N (edits b N s i m) k p ≡ 1 → p < room N k
       inside k p hk e = go (ℕ-discrete p (anc i k))
         where
           go : Dec (p ≡ anc i k) → p < room N k
           go (yes q) = rw q (anc-in N i k hi)
-          go (no n) = z .inside k p hk (sym (on-edits-other m k p hm hk (λ l. n)) ∙ e)
+          go (no n) = z .layers .inside k p hk (sym (on-edits-other m k p hm hk (λ l. n)) ∙ e)
 
       exact : (k q : ℕ) → k < top N → Dec (q ≡ anc i (suc k)) → (on N (edits b N s i m) (suc k) q ≡ 1) ↔ (word N (edits b N s i m) k q ≢ 0)
       exact k q h (yes e) = rw e (way k h)
       exact k q h (no n) =
-          rw (on-edits-other m (suc k) q hm h (λ l. n), word-edits-other b N s i long hi m k q hm (omega arith) (λ l. n)) (z .exact k q h)
+          rw (on-edits-other m (suc k) q hm h (λ l. n), word-edits-other b N s i long hi m k q hm (omega arith) (λ l. n)) (z .layers .exact k q h)

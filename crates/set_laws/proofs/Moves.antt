@@ -1,19 +1,21 @@
--- Adding and removing: where the climb ends, that soundness is kept, and the members afterwards.
+-- Adding and removing, once for both: where the climb ends, that soundness is kept, the bits of layer 0 and how many are set below any place.
 use mathlib.Core.Bool.{Bool, true, false, cond}
 use mathlib.Core.List.{List}
-use mathlib.Core.Logic.{_≢_, _↔_, _⊎_, inl, inr, ⊎-elim}
-use mathlib.Core.Path.{_≡_, sym, ap, _∙_, subst}
-use Prim.Native.Nat.{ℕ, zero, suc, _+_, _/_, _%_, _≤_, _<_}
+use mathlib.Core.Logic.{_≢_, _↔_}
+use mathlib.Core.Path.{_≡_, refl, sym, ap, _∙_, subst}
+use Prim.Native.Nat.{ℕ, zero, suc, _+_, _/_, _%_, _≤_, _<_, min}
 use native.Mathlib.Decide.{decLt, ℕ-discrete}
 use native.Mathlib.Omega.{arith}
 use lib.ListN.{length}
 use Rattle.util.proofs.Bits.{set-some}
+use Rattle.util.proofs.Places.{places-same, length-changed}
 use Rattle.store.specs.Layout.{top, storeLen}
-use Rattle.store.specs.Word.{word, on, anc, Sound}
+use Rattle.store.specs.Word.{word, on, anc, countBelow, Sound, SoundStore}
 use Rattle.store.proofs.Members.{over-on}
-use Rattle.set_edit.specs.Edit.{edits, addLayers, wordLeft, climb, removeLayers}
-use Rattle.set_edit.proofs.Edits.{word-edits-same, word-edits-other}
-use Rattle.set_edit.proofs.Moves.{add-none, add-all, add-one-layer, remove-none, remove-some, climb-stop, climb-on, climb-top}
+use Rattle.store.proofs.Words.{on-lt}
+use Rattle.set_edit.specs.Edit.{edits, addLayers, wordLeft, climb, removeLayers, layersOf, movedBy}
+use Rattle.set_edit.proofs.Edits.{word-edits-same, word-edits-other, store-moved, words-moved}
+use Rattle.set_edit.proofs.Moves.{add-none, add-all, add-one-layer, remove-none, remove-some, climb-stop, climb-on, climb-top, climb-some}
 use Rattle.set_laws.proofs.Bits.{on-edits-same, on-edits-other, sound-edits}
 
 module _ (N : ℕ) (s : List ℕ) (i : ℕ) where
@@ -66,12 +68,12 @@ module _ (N : ℕ) (s : List ℕ) (i : ℕ) (long : length s ≡ storeLen N) (hi
           → (on N (edits true N s i m) (suc k) (anc i (suc k)) ≡ 1) ↔ (word N (edits true N s i m) k (anc i (suc k)) ≢ 0)
       way k h (yes l) d = ((λ e. some k (omega arith)), λ e. on-edits-same true N s i long hi m (suc k) hm l)
       way k h (no n) (yes l) =
-          ((λ e. some k l), λ e. on-edits-other true N s i long hi m (suc k) (anc i (suc k)) hm h (λ x. absurd (n x)) ∙ z .exact k (anc i (suc k)) h .1 (tip k (omega arith) h))
+          ((λ e. some k l), λ e. on-edits-other true N s i long hi m (suc k) (anc i (suc k)) hm h (λ x. absurd (n x)) ∙ z .layers .exact k (anc i (suc k)) h .1 (tip k (omega arith) h))
       way k h (no n) (no o) =
           rw (on-edits-other true N s i long hi m (suc k) (anc i (suc k)) hm h (λ x. absurd (n x)), word-edits-other true N s i long hi m k (anc i (suc k)) hm (omega arith) (λ x. absurd (o x)))
-          (z .exact k (anc i (suc k)) h)
+          (z .layers .exact k (anc i (suc k)) h)
 
-  pub sound-add : Sound N (edits true N s i (addLayers N s i))
+  sound-add : Sound N (edits true N s i (addLayers N s i))
   unfolding edits anc
   sound-add = go (ℕ-discrete (on N s 0 i) 1) (ℕ-discrete (word N s 0 (i / 64)) 0)
     where
@@ -105,9 +107,9 @@ module _ (N : ℕ) (s : List ℕ) (i : ℕ) (long : length s ≡ storeLen N) (hi
       )
       way k h (no n) (no o) =
           rw (on-edits-other false N s i long hi m (suc k) (anc i (suc k)) low h (λ x. absurd (n x)), word-edits-other false N s i long hi m k (anc i (suc k)) low (omega arith) (λ x. absurd (o x)))
-          (z .exact k (anc i (suc k)) h)
+          (z .layers .exact k (anc i (suc k)) h)
 
-  pub sound-remove : Sound N (edits false N s i (removeLayers N s i))
+  sound-remove : Sound N (edits false N s i (removeLayers N s i))
   unfolding edits
   sound-remove = go (ℕ-discrete (on N s 0 i) 1)
     where
@@ -115,41 +117,59 @@ module _ (N : ℕ) (s : List ℕ) (i : ℕ) (long : length s ≡ storeLen N) (hi
       go (yes h) = rw (remove-some N s i h) (sound-clear (climb N s i 0 (top N)) h (climbed N s i 0 (top N)))
       go (no h) = rw (remove-none N s i h) z
 
--- ---- the members afterwards
+  pub sound-moved : (b : Bool) → Sound N (movedBy b N s i)
+  unfolding movedBy
+  sound-moved true = sound-add
+  sound-moved false = sound-remove
 
-module _ (N : ℕ) (s : List ℕ) (i : ℕ) (long : length s ≡ storeLen N) (hi : i < N) where
-  -- the bit of id j in layer 0
-  on-set : (m : ℕ) → 0 < m → m ≤ suc (top N) → (b : Bool) (j : ℕ) → j ≢ i → on N (edits b N s i m) 0 j ≡ on N s 0 j
-  unfolding anc
-  on-set m hz hm b j n = on-edits-other b N s i long hi m 0 j hm (omega arith) (λ l. n)
+-- the same of the whole store
+pub fine-moved : (b : Bool) {N : ℕ} {s : List ℕ} → SoundStore N s → (i : ℕ) → i < N → SoundStore N (movedBy b N s i)
+fine-moved b {N} {s} f i h =
+    record { is = store-moved b N s i (f .is); words = words-moved b N s i (f .words); sound = sound-moved N s i (f .is .long) h (f .sound) b }
 
-  on-here : (m : ℕ) → 0 < m → m ≤ suc (top N) → (b : Bool) → on N (edits b N s i m) 0 i ≡ cond b 1 0
-  unfolding anc
-  on-here m hz hm b = on-edits-same b N s i long hi m 0 hm hz
+-- ---- the bits of layer 0 afterwards, in any store: that of the id is as asked, and no other has changed
 
-  pub on-add : (j : ℕ) → (on N (edits true N s i (addLayers N s i)) 0 j ≡ 1) ↔ ((j ≡ i) ⊎ (on N s 0 j ≡ 1))
-  unfolding edits
-  on-add j = go (ℕ-discrete (on N s 0 i) 1) (ℕ-discrete (word N s 0 (i / 64)) 0)
+module _ (b : Bool) (N : ℕ) (s : List ℕ) (i : ℕ) (long : length s ≡ storeLen N) (hi : i < N) where
+  -- layers are written where the bit is not so already
+  layers-few : layersOf b N s i ≤ suc (top N)
+  layers-few = go b (ℕ-discrete (on N s 0 i) 1) (ℕ-discrete (word N s 0 (i / 64)) 0)
     where
-      after : (m : ℕ) → 0 < m → m ≤ suc (top N) → Dec (j ≡ i) → (on N (edits true N s i m) 0 j ≡ 1) ↔ ((j ≡ i) ⊎ (on N s 0 j ≡ 1))
-      after m hz hm (yes e) = ((λ x. inl e), λ x. ap (on N (edits true N s i m) 0) e ∙ on-here m hz hm true)
-      after m hz hm (no n) = ((λ x. inr (sym (on-set m hz hm true j n) ∙ x)), ⊎-elim (λ e. absurd (n e)) (λ x. on-set m hz hm true j n ∙ x))
+      go : (x : Bool) → Dec (on N s 0 i ≡ 1) → Dec (word N s 0 (i / 64) ≡ 0) → layersOf x N s i ≤ suc (top N)
+      go true (yes h) d = omega (arith, add-none N s i h)
+      go true (no h) (yes w) = omega (arith, add-all N s i h w)
+      go true (no h) (no w) = omega (arith, add-one-layer N s i h w)
+      go false (yes h) d = omega (arith, remove-some N s i h, climbed N s i 0 (top N) .most)
+      go false (no h) d = omega (arith, remove-none N s i h)
 
-      go : Dec (on N s 0 i ≡ 1) → Dec (word N s 0 (i / 64) ≡ 0) → (on N (edits true N s i (addLayers N s i)) 0 j ≡ 1) ↔ ((j ≡ i) ⊎ (on N s 0 j ≡ 1))
-      go (yes h) d = rw (add-none N s i h) ((λ x. inr x), ⊎-elim (λ e. ap (on N s 0) e ∙ h) (λ x. x))
-      go (no h) (yes w) = rw (add-all N s i h w) (after (suc (top N)) (omega arith) (omega arith) (ℕ-discrete j i))
-      go (no h) (no w) = rw (add-one-layer N s i h w) (after 1 (omega arith) (omega arith) (ℕ-discrete j i))
-
-  pub on-remove : (j : ℕ) → (on N (edits false N s i (removeLayers N s i)) 0 j ≡ 1) ↔ ((j ≢ i) × (on N s 0 j ≡ 1))
-  unfolding edits
-  on-remove j = go (ℕ-discrete (on N s 0 i) 1)
+  none-is : layersOf b N s i ≡ 0 → on N s 0 i ≡ cond b 1 0
+  none-is = go b (ℕ-discrete (on N s 0 i) 1) (ℕ-discrete (word N s 0 (i / 64)) 0)
     where
-      after : (m : ℕ) → 0 < m → m ≤ suc (top N) → Dec (j ≡ i) → (on N (edits false N s i m) 0 j ≡ 1) ↔ ((j ≢ i) × (on N s 0 j ≡ 1))
-      after m hz hm (yes e) = ((λ x. absurd (omega (arith, sym x ∙ ap (on N (edits false N s i m) 0) e ∙ on-here m hz hm false))), λ x. absurd (x .0 e))
-      after m hz hm (no n) = ((λ x. (n, sym (on-set m hz hm false j n) ∙ x)), λ x. on-set m hz hm false j n ∙ x .1)
+      go : (x : Bool) → Dec (on N s 0 i ≡ 1) → Dec (word N s 0 (i / 64) ≡ 0) → layersOf x N s i ≡ 0 → on N s 0 i ≡ cond x 1 0
+      go true (yes h) d e = h
+      go true (no h) (yes w) e = absurd (omega (arith, sym (add-all N s i h w) ∙ e))
+      go true (no h) (no w) e = absurd (omega (arith, sym (add-one-layer N s i h w) ∙ e))
+      go false (yes h) d e = absurd (climb-some N s i 0 (top N) (sym (remove-some N s i h) ∙ e))
+      go false (no h) d e = omega (arith, on-lt N s 0 i)
 
-      go : Dec (on N s 0 i ≡ 1) → (on N (edits false N s i (removeLayers N s i)) 0 j ≡ 1) ↔ ((j ≢ i) × (on N s 0 j ≡ 1))
-      go (yes h) =
-          let c = climbed N s i 0 (top N) in
-          rw (remove-some N s i h) (after (climb N s i 0 (top N)) (c .above) (omega (arith, c .most)) (ℕ-discrete j i))
-      go (no h) = rw (remove-none N s i h) ((λ x. ((λ e. h (sym (ap (on N s 0) e) ∙ x)), x)), λ x. x .1)
+  pub on-moved-same : on N (movedBy b N s i) 0 i ≡ cond b 1 0
+  unfolding movedBy anc edits
+  on-moved-same = go (layersOf b N s i) refl
+    where
+      go : (m : ℕ) → layersOf b N s i ≡ m → on N (edits b N s i m) 0 i ≡ cond b 1 0
+      go zero e = none-is e
+      go (suc m) e = on-edits-same b N s i long hi (suc m) 0 (omega (arith, layers-few)) (omega arith)
+
+  pub on-moved-other : (j : ℕ) → j ≢ i → on N (movedBy b N s i) 0 j ≡ on N s 0 j
+  unfolding movedBy anc
+  on-moved-other j n = on-edits-other b N s i long hi (layersOf b N s i) 0 j layers-few (omega arith) (λ l. n)
+
+  -- HOW MANY are below a: at or before the id as many, and beyond it one more, or less, where its bit was not so already
+  pub count-moved-before : (a : ℕ) → a ≤ i → countBelow N (movedBy b N s i) a ≡ countBelow N s a
+  count-moved-before a h =
+      ap length (places-same (on N (movedBy b N s i) 0) (on N s 0) 0 (min a N) (λ j l u. on-moved-other j (omega arith)))
+
+  pub count-moved-beyond : (a : ℕ) → i < a → countBelow N (movedBy b N s i) a + on N s 0 i ≡ countBelow N s a + cond b 1 0
+  count-moved-beyond a h =
+      length-changed (on N s 0) (on N (movedBy b N s i) 0) i (on-lt N s 0) (on-lt N (movedBy b N s i) 0) (λ j n. sym (on-moved-other j n)) 0 (min a N)
+      (omega arith) (omega arith)
+      ∙ ap (λ (x : ℕ). countBelow N s a + x) on-moved-same

@@ -1,9 +1,10 @@
 // Reading the layers of a store: the Rust's `get_from_layer` and its three layer slices.
 ghost use mathlib.Core.List.{[], _∷_};
 ghost use mathlib.Core.Path.{_≡_};
-ghost use Prim.Native.Nat.{_≤_};
+ghost use Prim.Native.Nat.{_≤_, _<_};
 ghost use Rattle.util.specs.Outcome.{Settled};
 ghost use Rattle.store.specs.Answer.{readPaper};
+ghost use Rattle.store.specs.Layout.{top, StoreOf};
 ghost use Rattle.store.specs.Word.{anc};
 ghost use Rattle.set_layers.specs.Calls.{wordOf, OwnPart};
 use store::Read;
@@ -27,18 +28,26 @@ fn places_over(id: u32) -> [usize; 2]
     ]
 }
 
-// Layer k, as the caller's own part of the store; empty where the slice is no store.
-fn part(store: &[u64], k: usize) -> &[u64]
-    requires { ⌜ k ≤ 3 ⌝ }
+// Layer k of a store of capacity n, as the caller's own part of it.
+fn part(store: &[u64], n: usize, k: usize) -> &[u64]
+    requires { ⌜ (StoreOf n (now store)) × (k ≤ top n) ⌝ }
+    ensures { λ r. ⌜ OwnPart (store .entry) r k ⌝ }
+{
+    let a = store::start(store.len(), n, k);
+    let e = store::end(n, k);
+    &store[a..e]
+}
+
+// Layer k, one of the three that are handed back, as the caller's own part of the store; empty where the slice is no store.
+fn handed(store: &[u64], k: usize) -> &[u64]
+    requires { ⌜ k < 3 ⌝ }
     ensures { λ r. ⌜ OwnPart (store .entry) r k ⌝ }
 {
     let n = store::capacity(store);
     if n == 0 {
         return &store[..0];
     }
-    let a = store::end(n, k + 1);
-    let e = store::end(n, k);
-    &store[a..e]
+    part(store, n, k)
 }
 
 // The word at an index of a layer; 0 past the layer's end. The top layer has one word, whatever the index.
@@ -49,33 +58,33 @@ pub fn get_from_layer(store: &[u64], layer: usize, idx: usize) -> Read
     if n == 0 {
         return Read::Refused(2);
     }
-    if layer > 3 {
+    let top = store::top(n);
+    if layer > top {
         return Read::Refused(4);
     }
-    let words = part(store, layer);
-    if layer == 3 {
-        return Read::Word(store::get(words, 0));
+    if layer == top {
+        return Read::Word(store::top_word(store));
     }
-    Read::Word(store::get(words, idx))
+    Read::Word(store::get(part(store, n, layer), idx))
 }
 
 // The bottom layer: each bit is an id.
 pub fn layer0_as_slice(store: &[u64]) -> &[u64]
     ensures { λ r. ⌜ OwnPart (store .entry) r 0 ⌝ }
 {
-    part(store, 0)
+    handed(store, 0)
 }
 
 // The second layer: each bit stands for a word of layer 0.
 pub fn layer1_as_slice(store: &[u64]) -> &[u64]
     ensures { λ r. ⌜ OwnPart (store .entry) r 1 ⌝ }
 {
-    part(store, 1)
+    handed(store, 1)
 }
 
 // The third layer: each bit stands for a word of layer 1.
 pub fn layer2_as_slice(store: &[u64]) -> &[u64]
     ensures { λ r. ⌜ OwnPart (store .entry) r 2 ⌝ }
 {
-    part(store, 2)
+    handed(store, 2)
 }

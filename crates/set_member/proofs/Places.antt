@@ -7,7 +7,7 @@ use native.Mathlib.Omega.{arith}
 use borrow.Author.Tests.{ltb-true}
 use lib.Dec.{ltb}
 use Rattle.util.specs.Outcome.{Settled, settled, settles}
-use Rattle.store.specs.Layout.{cap, isStore, StoreOf}
+use Rattle.store.specs.Layout.{layerStart, cap, isStore, StoreOf}
 use Rattle.store.specs.Word.{word}
 use Rattle.store.proofs.Geometry.{is-store, store-is}
 use Rattle.set_member.specs.Calls.{locateOf}
@@ -23,9 +23,9 @@ module _ (s : List ℕ) (i : ℕ) where
   is-nowhere h = settled (rw h)
 
   module _ {N : ℕ} (z : StoreOf N s) where
-    pub is-in : {w : ℕ} → ltb i N ≡ true → w ≡ word N s 0 (i / 64) → Settled placePaper (locateOf s i) (In N w) tt
+    pub is-in : {a w : ℕ} → ltb i N ≡ true → a ≡ layerStart N 0 → w ≡ word N s 0 (i / 64) → Settled placePaper (locateOf s i) (In N a w) tt
     unfolding locateOf
-    is-in h e = settled (rw (is-store z, z .names, h, ← e))
+    is-in h f e = settled (rw (is-store z, z .names, h, ← e, ← f))
 
     pub is-past : ltb i N ≡ false → Settled placePaper (locateOf s i) Past tt
     unfolding locateOf
@@ -35,7 +35,7 @@ module _ (s : List ℕ) (i : ℕ) where
 
 -- the facts that an id's place stands for
 unfoldable Located : List ℕ → ℕ → Place → Type 0
-Located s i (In n w) = Inside s i n w
+Located s i (In n a w) = Inside s i n a w
 Located s i Past = Outside s i
 Located s i Nowhere = isStore s ≡ false
 
@@ -48,12 +48,13 @@ located s i {r} l = go (isStore s) refl (ltb i (cap s)) refl
     at m = subst (Located s i) (settles m l .0)
 
     go : (b : Bool) → isStore s ≡ b → (f : Bool) → ltb i (cap s) ≡ f → Located s i r
-    go true p true q = at (is-in s i (store-is p) q refl) (record { placed = record { store = store-is p; below = ltb-true _ _ q; layer = omega arith }; word-is = refl })
+    go true p true q = at (is-in s i (store-is p) q refl refl)
+        (record { placed = record { store = store-is p; below = ltb-true _ _ q; layer = omega arith }; start-is = refl; word-is = refl })
     go true p false q = at (is-past s i (store-is p) q) (record { n = cap s; store = store-is p; past = q })
     go false p f q = at (is-nowhere s i p) p
 
 module _ (s : List ℕ) (i : ℕ) {r : Place} (l : Settled placePaper (locateOf s i) r tt) where
-  pub inside : {n w : ℕ} → r ≡ In n w → Inside s i n w
+  pub inside : {n a w : ℕ} → r ≡ In n a w → Inside s i n a w
   unfolding Located
   inside e = subst (Located s i) e (located s i l)
 

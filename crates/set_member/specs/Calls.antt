@@ -5,19 +5,20 @@ use Prim.Native.Nat.{ℕ, _/_}
 use lib.Dec.{ltb, eqb}
 use Rattle.util.specs.Outcome.{Outcome}
 use Rattle.store.specs.Answer.{says, refuses}
-use Rattle.store.specs.Layout.{cap, isStore}
+use Rattle.store.specs.Layout.{layerStart, cap, isStore}
 use Rattle.store.specs.Word.{word, on}
 
 -- whether id i is held
 abbrev pub holds : ℕ → List ℕ → ℕ → Bool
 holds N s i = eqb (on N s 0 i) 1
 
--- "ids 0 to N-1 have room": the capacity and layer-0 word i/64 where id i has room; 3, "an id at or past N"; 2 where s is no store
+-- "ids 0 to N-1 have room": the capacity, where layer 0 starts, and its word i/64 where id i has room; 3, "an id at or past N"; 2 where s is
+-- no store
 unfoldable pub locateOf : List ℕ → ℕ → Outcome (Unit {0})
 locateOf s i =
     let N = cap s in
     cond (isStore s)
-    (cond (ltb i N) (record { numbers = 0 ∷ N ∷ word N s 0 (i / 64) ∷ []; lent = tt }) (refuses 3 tt))
+    (cond (ltb i N) (record { numbers = 0 ∷ N ∷ layerStart N 0 ∷ word N s 0 (i / 64) ∷ []; lent = tt }) (refuses 3 tt))
     (refuses 2 tt)
 
 -- "An id is a member if it is below N and its layer-0 bit is set."

@@ -9,9 +9,9 @@ ghost use Rattle.set_member.specs.Calls.{locateOf, containsOf};
 ghost use Rattle.set_member.specs.Place.{placePaper, Placed};
 use store::Asked;
 
-// Where an id stands: in a store of so many ids, with this layer-0 word; past its end; or in no store.
+// Where an id stands: in a store of so many ids, whose layer 0 starts there, with this layer-0 word; past its end; or in no store.
 pub enum Place {
-    In(usize, u64),
+    In(usize, usize, u64),
     Past,
     Nowhere,
 }
@@ -28,7 +28,8 @@ fn word0(store: &[u64], n: usize, id: u32) -> u64
     requires { ⌜ Placed (now store) n id 0 ⌝ }
     ensures { λ r. ⌜ r ≡ word n (now (store .entry)) 0 (id / 64) ⌝ }
 {
-    store[store::end(n, 1) + util::offset(id, util::SHIFT1)]
+    let a = store::start(store.len(), n, 0);
+    store[store::id_word(a, id)]
 }
 
 // What every call on an id begins with: its tests, and the word that it reads.
@@ -40,7 +41,7 @@ pub fn locate(store: &[u64], id: u32) -> Place
         return Place::Nowhere;
     }
     if has_room(id, n) {
-        Place::In(n, word0(store, n, id))
+        Place::In(n, store::start(store.len(), n, 0), word0(store, n, id))
     } else {
         Place::Past
     }
@@ -51,7 +52,7 @@ pub fn contains(store: &[u64], id: u32) -> Asked
     ensures { λ r. ⌜ Settled askedPaper (containsOf (now (store .entry)) id) r tt ⌝ }
 {
     match locate(store, id) {
-        Place::In(_, w) => Asked::Is(util::is_set(w, id as usize)),
+        Place::In(_, _, w) => Asked::Is(util::is_set(w, id as usize)),
         Place::Past => Asked::Is(false),
         Place::Nowhere => Asked::Refused(2),
     }

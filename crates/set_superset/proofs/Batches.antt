@@ -14,14 +14,14 @@ use Rattle.walk_batches.proofs.Batches.{ahead, At, Turn, at-start, parts, nothi
 use Rattle.set_superset.specs.Calls.{allHeld}
 use Rattle.set_superset.proofs.Held.{held-append}
 
-pub record Going (s t ids : List ℕ) (c : Cursor) : Type 0 where
+pub record Holding (s t ids : List ℕ) (c : Cursor) : Type 0 where
   pub at : At t ids c
   pub same : allHeld s (ahead t c) ≡ allHeld s (walked t)
 
-pub going-start : (s t : List ℕ) → isStore t ≡ true → Words64 t → {ids : List ℕ} (c : Cursor) → length ids ≡ 64 → c ≡ startedOf t → Going s t ids c
-going-start s t is small c l e = let a = at-start t is small c l e in record { at = a .0; same = ap (allHeld s) (a .1) }
+pub holding-start : (s t : List ℕ) → isStore t ≡ true → Words64 t → {ids : List ℕ} (c : Cursor) → length ids ≡ 64 → c ≡ startedOf t → Holding s t ids c
+holding-start s t is small c l e = let a = at-start t is small c l e in record { at = a .0; same = ap (allHeld s) (a .1) }
 
-module _ {s t ids out : List ℕ} {b : ℕ} {c : Cursor} {r : Batch} (g : Going s t ids c) (u : Turn t b c r out) where
+module _ {s t ids out : List ℕ} {b : ℕ} {c : Cursor} {r : Batch} (g : Holding s t ids c) (u : Turn t b c r out) where
   -- the batch, and what is ahead behind it
   halves : allHeld s (walked t) ≡ (allHeld s (take (r .count) out) && allHeld s (ahead t (r .cursor)))
   halves = sym (g .same) ∙ ap (allHeld s) (parts u) ∙ held-append s (take (r .count) out) (ahead t (r .cursor))
@@ -37,5 +37,5 @@ module _ {s t ids out : List ℕ} {b : ℕ} {c : Cursor} {r : Batch} (g : Going 
     unfolding allHeld
     all-there e = sym (ap (allHeld s) (nothing-ahead u e)) ∙ rest-is
 
-    pub going-on : Going s t out (r .cursor)
+    pub going-on : Holding s t out (r .cursor)
     going-on = record { at = u .at; same = rest-is }

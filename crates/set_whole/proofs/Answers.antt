@@ -3,22 +3,21 @@ use mathlib.Core.Bool.{true, false, Bool}
 use mathlib.Core.List.{List}
 use mathlib.Core.Logic.{_≢_}
 use mathlib.Core.Path.{_≡_, sym, ap, _∙_}
-use Prim.Native.Nat.{ℕ, suc, _+_, _-_}
+use Prim.Native.Nat.{ℕ, suc, _-_}
 use native.Mathlib.Omega.{arith}
 use borrow.Author.Tests.{eq-eqb, ne-eqb}
 use lib.Dec.{eqb}
-use lib.ListN.{length, getD, set, replicate}
+use lib.ListN.{length, set, replicate}
 use Rattle.util.specs.Outcome.{Settled, settled}
 use Rattle.util.specs.Word.{same}
 use Rattle.store.specs.Answer.{askedPaper, didPaper, does}
 use Rattle.store.specs.Build.{empty}
-use Rattle.store.specs.Layout.{top, isCap, layerEnd, storeLen, isStore, StoreOf, endOf}
+use Rattle.store.specs.Layout.{top, isCap, storeLen, isStore, StoreOf, endOf, topWord}
 use Rattle.store.specs.Word.{word}
 use Rattle.store.specs.declared.Asked.the-variants.{Is, Refused as AskedRefused}
 use Rattle.store.specs.declared.Did.the-variants.{Done, Refused as DidRefused}
-use Rattle.store.proofs.Ends.{end-is, end-cap}
-use Rattle.store.proofs.Geometry.{is-store, after-header, room-falls}
-use Rattle.store.proofs.Words.{word-in}
+use Rattle.store.proofs.Ends.{end-cap, top-word}
+use Rattle.store.proofs.Geometry.{is-store, after-header}
 use Rattle.set_whole.specs.Calls.{openOf, clearOf, isEmptyOf, equalOf}
 
 -- zeros, with the capacity in word 0, are the empty store
@@ -61,13 +60,9 @@ module _ {N : ℕ} {s : List ℕ} (z : StoreOf N s) where
   unfolding clearOf
   clear-done t e = settled (rw (is-store z, z .names) (ap does (sym (e ∙ empty-is N (length s) (z .long)))))
 
-  -- the code reads the top layer's word, which stands behind the header
-  pub is-empty-is : (a w : ℕ) → a ≡ endOf N 4 → w ≡ getD s a 0 → Settled askedPaper (isEmptyOf s) (Is (eqb w 0)) tt
-  unfolding isEmptyOf top
-  is-empty-is a w a-is w-is =
-      let e : a ≡ layerEnd N 4 + 0 = omega (arith, a-is, end-is N 4 (z .some) (z .most)) in
-      let q : word N s 3 0 ≡ w = word-in N s 3 0 (omega (arith, room-falls N 4 (z .some))) ∙ sym (w-is ∙ ap (λ (x : ℕ). getD s x 0) e) in
-      settled (rw (is-store z, z .names, q))
+  pub is-empty-is : (w : ℕ) → w ≡ topWord s → Settled askedPaper (isEmptyOf s) (Is (eqb w 0)) tt
+  unfolding isEmptyOf
+  is-empty-is w e = let q : word N s (top N) 0 ≡ w = sym (e ∙ top-word z) in settled (rw (is-store z, z .names, q))
 
 -- ---- equal
 

@@ -20,11 +20,11 @@ fn zero(part: &mut [u64])
 }
 
 // The empty store of a capacity, over all that is lent.
-fn empty(store: &mut [u64], n: u64)
+fn empty(store: &mut [u64], n: usize)
     ensures { λ r. ⌜ now (store .exit) ≡ set (replicate (length (now (store .entry))) 0) 0 n ⌝ }
 {
     zero(store);
-    store::put(store, 0, n);
+    store::name(store, n);
 }
 
 // Makes the slice the empty store of capacity n.
@@ -34,7 +34,7 @@ pub fn open(store: &mut [u64], n: u32) -> Did
     let cap = n as usize;
     if store::is_capacity(cap) {
         if store.len() == store::end(cap, 0) {
-            empty(store, n as u64);
+            empty(store, cap);
             return Did::Done;
         }
         return Did::Refused(2);
@@ -50,11 +50,11 @@ pub fn clear(store: &mut [u64]) -> Did
     if n == 0 {
         return Did::Refused(2);
     }
-    empty(store, n as u64);
+    empty(store, n);
     Did::Done
 }
 
-// Whether the top layer is 0.
+// Whether the top layer's word is 0.
 pub fn is_empty(store: &[u64]) -> Asked
     ensures { λ r. ⌜ Settled askedPaper (isEmptyOf (now (store .entry))) r tt ⌝ }
 {
@@ -62,7 +62,7 @@ pub fn is_empty(store: &[u64]) -> Asked
     if n == 0 {
         return Asked::Refused(2);
     }
-    Asked::Is(store::get(store, store::end(n, 4)) == 0)
+    Asked::Is(store::top_word(store) == 0)
 }
 
 // Whether two slices of one length hold the same words.

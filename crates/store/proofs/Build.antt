@@ -9,14 +9,14 @@ use native.Mathlib.Nat.{pow-suc}
 use native.Mathlib.Omega.{arith}
 use borrow.Author.Tests.{eq-eqb, ne-eqb}
 use lib.Dec.{eqb}
-use lib.ListN.{length, getD, take, drop, length-take, length-drop, length-replicate, getD-replicate, List·getD-append, List·getD-eq-default}
+use lib.ListN.{length, getD, take, drop, replicate, length-take, length-drop, length-replicate, getD-replicate, List·getD-append, List·getD-eq-default}
 use lib.Pow.{pow-mono}
 use lib.Seq.{drop-at, drop-drop, getD-take, getD-drop, getD-append-add}
 use Rattle.util.specs.Word.{bit}
 use Rattle.util.proofs.Bits.{bit-of-zero, bit-zero, bit-suc, bit-high, bits-below}
-use Rattle.store.specs.Build.{flag, flags, chunks, summary, layerOf, stacked, build, layer0, room0, Kept, empty}
+use Rattle.store.specs.Build.{flag, flags, chunks, summary, layerOf, stacked, head, build, layer0, room0, Kept, empty}
 use Rattle.store.specs.Layout.{header, maxCap, words, room, layerLen, layerStart, storeLen, cap, top, StoreOf}
-use Rattle.store.specs.Word.{word, on, Sound, Words64}
+use Rattle.store.specs.Word.{word, on, Sound, Words64, SoundStore}
 use Rattle.store.proofs.Geometry.{end-top, end-step, after-header, within}
 use Rattle.store.proofs.Members.{words-same, by-layers}
 use Rattle.store.proofs.Words.{word-in, word-out, on-lt, bit-place}
@@ -104,11 +104,11 @@ module _ (N : ℕ) (ws : List ℕ) (long : length ws ≡ layerLen N 0) where
   unfolding build stacked
   drop-from zero k e =
       let q : k ≡ top N = omega arith in
-      ap (λ (m : ℕ). drop (layerStart N m) (N ∷ stacked (suc (top N)) ws)) q
-      ∙ ap (λ (m : ℕ). drop m (N ∷ stacked (suc (top N)) ws)) (end-top N) ∙ ap (λ (m : ℕ). stacked (suc m) ws) (sym q)
+      ap (λ (m : ℕ). drop (layerStart N m) (build N ws)) q
+      ∙ ap (λ (m : ℕ). drop m (build N ws)) (end-top N) ∙ drop-at (head N ws) (stacked (suc (top N)) ws) header refl ∙ ap (λ (m : ℕ). stacked (suc m) ws) (sym q)
   drop-from (suc d) k e =
-      ap (λ (m : ℕ). drop m (N ∷ stacked (suc (top N)) ws)) (end-step N (suc k) (omega arith))
-      ∙ sym (drop-drop (layerLen N (suc k)) (layerStart N (suc k)) (N ∷ stacked (suc (top N)) ws))
+      ap (λ (m : ℕ). drop m (build N ws)) (end-step N (suc k) (omega arith))
+      ∙ sym (drop-drop (layerLen N (suc k)) (layerStart N (suc k)) (build N ws))
       ∙ ap (drop (layerLen N (suc k))) (drop-from d (suc k) (omega arith))
       ∙ drop-at (layerOf (suc k) ws) (stacked (suc k) ws) (layerLen N (suc k)) (length-layer (suc k))
 
@@ -152,7 +152,8 @@ module _ (N : ℕ) (ws : List ℕ) (long : length ws ≡ layerLen N 0) where
   -- IT IS SOUND, if no bit stands at or past N
   pub sound-build : Kept N ws → Sound N (build N ws)
   unfolding room
-  sound-build c = record { inside = inside; exact = λ k q h. rw (on-build-suc k q h) (flag-on (word N (build N ws) k q)) }
+  sound-build c =
+      record { layers = record { inside = inside; exact = λ k q h. rw (on-build-suc k q h) (flag-on (word N (build N ws) k q)) } }
     where
       inside : (k p : ℕ) → k ≤ top N → on N (build N ws) k p ≡ 1 → p < room N k
       inside zero p h e = go (decLt p N)
@@ -194,6 +195,18 @@ module _ (N : ℕ) (ws : List ℕ) (long : length ws ≡ layerLen N 0) where
     words-build zero = omega arith
     words-build (suc x) = stacked-lt (suc (top N)) x
 
+-- the same of the whole
+kept-small : (N : ℕ) (ws : List ℕ) → Kept N ws → Words64 ws
+kept-small N ws k x = let l : room0 N x ≤ 64 = omega arith in omega (arith, k x, pow-mono l)
+
+pub build-fine : (N : ℕ) (ws : List ℕ) → 1 ≤ N → N ≤ maxCap → length ws ≡ layerLen N 0 → Kept N ws → SoundStore N (build N ws)
+build-fine N ws some most long k =
+    record {
+      is = record { some = some; most = most; names = cap-build N ws long; long = length-build N ws long some };
+      words = words-build N ws long most (kept-small N ws k);
+      sound = sound-build N ws long k;
+    }
+
 -- ---- SOUND STORES are exactly the stores that their layer 0 makes, with no bit at or past N
 
 module _ (s : List ℕ) (is : StoreOf (cap s) s) (small : Words64 s) where
@@ -227,7 +240,7 @@ module _ (s : List ℕ) (is : StoreOf (cap s) s) (small : Words64 s) where
   unfolding room
   kept-of z q =
       bits-below (room0 N q) (getD ws q 0) (omega arith) (words-layer0 q)
-      (λ b i u. off b u (λ e. omega (arith, z .inside 0 (64 * q + b) (omega arith) e)))
+      (λ b i u. off b u (λ e. omega (arith, z .layers .inside 0 (64 * q + b) (omega arith) e)))
     where
       off : (b : ℕ) → b < 64 → on N s 0 (64 * q + b) ≢ 1 → bit (getD ws q 0) b ≡ 0
       off b u n = ap (λ (w : ℕ). bit w b) (word-layer0 q) ∙ bit-place N s 0 q b u ∙ omega (arith, on-lt N s 0 (64 * q + b))
@@ -240,8 +253,8 @@ module _ (s : List ℕ) (is : StoreOf (cap s) s) (small : Words64 s) where
       let ih = layers-made z k (omega arith) in
       let b = on-build-suc N ws length-layer0 k in
       words-same N s made small words-made (suc k)
-      (λ p e. b p h ∙ flag-one (word N made k p) (λ w. z .exact k p h .0 e (ih p ∙ w)))
-      (λ p e. z .exact k p h .1 (λ w. flag-on (word N made k p) .0 (sym (b p h) ∙ e) (sym (ih p) ∙ w)))
+      (λ p e. b p h ∙ flag-one (word N made k p) (λ w. z .layers .exact k p h .0 e (ih p ∙ w)))
+      (λ p e. z .layers .exact k p h .1 (λ w. flag-on (word N made k p) .0 (sym (b p h) ∙ e) (sym (ih p) ∙ w)))
 
   header-made : (x : ℕ) → x < header → getD s x 0 ≡ getD made x 0
   header-made x h =
@@ -273,15 +286,28 @@ module _ (N : ℕ) (some : 1 ≤ N) where
           word-in N (empty N) k q l
           ∙ ap (λ (x : ℕ). getD (empty N) x 0) e
           ∙ getD-replicate (storeLen N - 1) (layerStart N k + q - 1) 0 0
-          (omega (arith, within N k h, end-step N k h, after-header N (suc k)))
+          (omega (arith, within N k, end-step N k h, after-header N (suc k)))
 
   pub sound-empty : Sound N (empty N)
   unfolding on
   sound-empty =
       record {
-        inside = λ k p h e. absurd (omega (arith, sym e ∙ ap (λ (w : ℕ). bit w (p % 64)) (word-empty k (p / 64) h) ∙ bit-of-zero (p % 64)));
-        exact = λ k q h. (
-          λ e w. omega (arith, sym e ∙ ap (λ (w : ℕ). bit w (q % 64)) (word-empty (suc k) (q / 64) h) ∙ bit-of-zero (q % 64)),
-          λ n. absurd (n (word-empty k q (omega arith))),
-        );
+        layers = record {
+          inside = λ k p h e. absurd (omega (arith, sym e ∙ ap (λ (w : ℕ). bit w (p % 64)) (word-empty k (p / 64) h) ∙ bit-of-zero (p % 64)));
+          exact = λ k q h. (
+            λ e w. omega (arith, sym e ∙ ap (λ (w : ℕ). bit w (q % 64)) (word-empty (suc k) (q / 64) h) ∙ bit-of-zero (q % 64)),
+            λ n. absurd (n (word-empty k q (omega arith))),
+          );
+        };
       }
+
+  pub fine-empty : N ≤ maxCap → SoundStore N (empty N)
+  fine-empty most = record { is = store-empty most; words = small; sound = sound-empty }
+    where
+      small : Words64 (empty N)
+      small zero = omega arith
+      small (suc x) = go (decLt x (storeLen N - 1))
+        where
+          go : Dec (x < storeLen N - 1) → getD {A = ℕ} (replicate (storeLen N - 1) 0) x 0 < 2 ^ 64
+          go (yes l) = rw (getD-replicate {A = ℕ} (storeLen N - 1) x 0 0 l) (omega arith)
+          go (no l) = rw (List·getD-eq-default {A = ℕ} (replicate (storeLen N - 1) 0) 0 {n = x} (omega (arith, length-replicate {A = ℕ} (storeLen N - 1) 0))) (omega arith)

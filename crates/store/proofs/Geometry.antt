@@ -67,16 +67,27 @@ pub after-header : (N k : ℕ) → header ≤ layerEnd N k
 unfolding layerEnd
 after-header N k = omega arith
 
+-- above the top layer there is nothing
+pub end-past : (N k : ℕ) → top N < k → layerEnd N k ≡ header
+unfolding layerEnd span
+end-past N k h = let e : suc (top N) - k ≡ 0 = omega arith in ap (λ (m : ℕ). header + span N k m) e
+
 -- a layer above another ends before it: the layers are apart, and inside the store
-pub ends-fall : (N j k : ℕ) → j ≤ k → k ≤ suc (top N) → layerEnd N k ≤ layerEnd N j
-ends-fall N j k h = le-ind (λ (m : ℕ). m ≤ suc (top N) → layerEnd N m ≤ layerEnd N j) (λ g. omega arith)
-    (λ m l ih g. let e = ih (omega arith) in omega (arith, end-step N m (omega arith))) k h
+pub end-falls : (N k : ℕ) → layerEnd N (suc k) ≤ layerEnd N k
+end-falls N k = go (decLt (top N) k)
+  where
+    go : Dec (top N < k) → layerEnd N (suc k) ≤ layerEnd N k
+    go (yes l) = omega (arith, end-past N k l, end-past N (suc k) (omega arith))
+    go (no l) = omega (arith, end-step N k (omega arith))
 
-pub apart : (N j k : ℕ) → j < k → k ≤ top N → layerEnd N k ≤ layerStart N j
-apart N j k h g = ends-fall N (suc j) k h (omega arith)
+pub ends-fall : (N j k : ℕ) → j ≤ k → layerEnd N k ≤ layerEnd N j
+ends-fall N j k h = le-ind (λ (m : ℕ). layerEnd N m ≤ layerEnd N j) (omega arith) (λ m l ih. omega (arith, end-falls N m)) k h
 
-pub within : (N k : ℕ) → k ≤ top N → layerEnd N k ≤ storeLen N
-within N k g = ends-fall N 0 k (omega arith) (omega arith)
+apart : (N j k : ℕ) → j < k → layerEnd N k ≤ layerStart N j
+apart N j k h = ends-fall N (suc j) k h
+
+pub within : (N k : ℕ) → layerEnd N k ≤ storeLen N
+within N k = ends-fall N 0 k (omega arith)
 
 -- one place in the store is one index of one layer
 pub same-place : (N k j q r : ℕ) → k ≤ top N → j ≤ top N → q < layerLen N k → r < layerLen N j
@@ -84,8 +95,8 @@ pub same-place : (N k j q r : ℕ) → k ≤ top N → j ≤ top N → q < layer
 same-place N k j q r hk hj hq hr e = go (decLt k j) (decLt j k)
   where
     go : Dec (k < j) → Dec (j < k) → (k ≡ j) × (q ≡ r)
-    go (yes l) d = absurd (omega (arith, apart N k j l hj, end-step N j hj))
-    go (no n) (yes l) = absurd (omega (arith, apart N j k l hk, end-step N k hk))
+    go (yes l) d = absurd (omega (arith, apart N k j l, end-step N j hj))
+    go (no n) (yes l) = absurd (omega (arith, apart N j k l, end-step N k hk))
     go (no n) (no m) =
         let p : k ≡ j = omega arith in
         let a : layerStart N k ≡ layerStart N j = ap (layerStart N) p in

@@ -1,4 +1,5 @@
 pub mod Geometry
+pub mod TopLayer
 pub mod Words
 pub mod Members
 pub mod Build

@@ -11,9 +11,20 @@ use Rattle.util.specs.Word.{Rising}
 use Rattle.util.proofs.Bits.{word-ext}
 use Rattle.util.proofs.Places.{some-bit, places-in, in-places, places-rising}
 use Rattle.store.specs.Layout.{header, top, room, storeLen, cap, StoreOf}
-use Rattle.store.specs.Word.{word, on, anc, Member, members, Sound, Words64}
+use Rattle.store.specs.Word.{word, on, anc, Member, members, Sound, Words64, SoundStore}
 use Rattle.store.proofs.Geometry.{spot-in}
 use Rattle.store.proofs.Words.{word-in, word-lt, on-lt, on-word, bit-place}
+
+-- members of a store of capacity N, by the bits of layer 0
+pub member-on : {N : ℕ} {s : List ℕ} {j : ℕ} → cap s ≡ N → Member s j → (j < N) × (on N s 0 j ≡ 1)
+member-on {s = s} {j = j} e m = subst (λ (n : ℕ). (j < n) × (on n s 0 j ≡ 1)) e (m .below, m .held)
+
+pub on-member : {N : ℕ} {s : List ℕ} {j : ℕ} → cap s ≡ N → j < N → on N s 0 j ≡ 1 → Member s j
+on-member {s = s} {j = j} e h o = record { below = subst (λ (n : ℕ). j < n) (sym e) h; held = subst (λ (n : ℕ). on n s 0 j ≡ 1) (sym e) o }
+
+-- a sound store, by its own capacity
+pub own : {N : ℕ} {s : List ℕ} → SoundStore N s → SoundStore (cap s) s
+own {s = s} f = subst (λ (n : ℕ). SoundStore n s) (sym (f .is .names)) f
 
 -- ---- the list of members: exactly the members, each once, rising
 
@@ -40,13 +51,13 @@ module _ (N : ℕ) (s : List ℕ) (z : Sound N s) where
   pub over-on : (k : ℕ) → k ≤ top N → (i : ℕ) → on N s 0 i ≡ 1 → on N s k (anc i k) ≡ 1
   unfolding anc
   over-on zero h i e = e
-  over-on (suc k) h i e = z .exact k (anc i k / 64) h .1 (on-word N s k (anc i k) (over-on k (omega arith) i e))
+  over-on (suc k) h i e = z .layers .exact k (anc i k / 64) h .1 (on-word N s k (anc i k) (over-on k (omega arith) i e))
 
   pub on-under : Words64 s → (k : ℕ) → k ≤ top N → (p : ℕ) → on N s k p ≡ 1 → Under N s k p
   unfolding anc
   on-under small zero h p e = record { id = p; held = e; here = refl }
   on-under small (suc k) h p e =
-      let b = some-bit (word N s k p) (word-lt N s small k p) (z .exact k p h .0 e) in
+      let b = some-bit (word N s k p) (word-lt N s small k p) (z .layers .exact k p h .0 e) in
       let u = on-under small k (omega arith) (64 * p + b .0) (sym (bit-place N s k p (b .0) (b .1)) ∙ b .2) in
       record { id = u .id; held = u .held; here = ap (λ (x : ℕ). x / 64) (u .here) ∙ omega (arith, b .1) }
 
@@ -54,7 +65,7 @@ pub summary-members : (s : List ℕ) → Words64 s → Sound (cap s) s → (k p 
     → (on (cap s) s k p ≡ 1) ↔ ((i : ℕ) × Member s i × (anc i k ≡ p))
 unfolding room
 summary-members s small z k p h = (
-  λ e. let u = on-under (cap s) s z small k h p e in (u .id, record { below = z .inside 0 (u .id) (omega arith) (u .held); held = u .held }, u .here),
+  λ e. let u = on-under (cap s) s z small k h p e in (u .id, record { below = z .layers .inside 0 (u .id) (omega arith) (u .held); held = u .held }, u .here),
   λ m. subst (λ (x : ℕ). on (cap s) s k x ≡ 1) (m .2) (over-on (cap s) s z k h (m .0) (m .1 .held)),
 )
 
@@ -80,12 +91,12 @@ module _ (N : ℕ) (s t : List ℕ) (ws : Words64 s) (wt : Words64 t) where
   layers-same : Sound N s → Sound N t → ((p : ℕ) → p < N → on N s 0 p ≡ 1 → on N t 0 p ≡ 1) → ((p : ℕ) → p < N → on N t 0 p ≡ 1 → on N s 0 p ≡ 1)
       → (k : ℕ) → k ≤ top N → (q : ℕ) → word N s k q ≡ word N t k q
   unfolding room
-  layers-same zs zt st ts zero h = words-same 0 (λ p e. st p (zs .inside 0 p h e) e) (λ p e. ts p (zt .inside 0 p h e) e)
+  layers-same zs zt st ts zero h = words-same 0 (λ p e. st p (zs .layers .inside 0 p h e) e) (λ p e. ts p (zt .layers .inside 0 p h e) e)
   layers-same zs zt st ts (suc k) h =
       let ih = layers-same zs zt st ts k (omega arith) in
       words-same (suc k)
-      (λ p e. zt .exact k p h .1 (λ w. zs .exact k p h .0 e (ih p ∙ w)))
-      (λ p e. zs .exact k p h .1 (λ w. zt .exact k p h .0 e (sym (ih p) ∙ w)))
+      (λ p e. zt .layers .exact k p h .1 (λ w. zs .layers .exact k p h .0 e (ih p ∙ w)))
+      (λ p e. zs .layers .exact k p h .1 (λ w. zt .layers .exact k p h .0 e (sym (ih p) ∙ w)))
 
 -- lists of a store's length that agree in the header and in every layer are equal
 pub by-layers : (N : ℕ) (s t : List ℕ) → length s ≡ storeLen N → length t ≡ storeLen N → ((x : ℕ) → x < header → getD s x 0 ≡ getD t x 0)
@@ -102,11 +113,10 @@ by-layers N s t ls lt head layers = ext-getD 0 s t (ls ∙ sym lt) (λ x l. at x
         ∙ word-in N t (f .layer) (f .index) (f .inside)
         ∙ sym (ap (λ (y : ℕ). getD t y 0) (f .here))
 
-pub same-store : (s t : List ℕ) → StoreOf (cap s) s → StoreOf (cap t) t → cap s ≡ cap t → Words64 s → Words64 t → Sound (cap s) s → Sound (cap t) t
-    → ((j : ℕ) → Member s j ↔ Member t j) → s ≡ t
-same-store s t is it e ws wt zs zt m =
-    by-layers (cap s) s t (is .long) (it .long ∙ ap storeLen (sym e))
-    (λ x h. let z : x ≡ 0 = omega arith in ap (λ (y : ℕ). getD s y 0) z ∙ e ∙ sym (ap (λ (y : ℕ). getD t y 0) z))
-    (layers-same (cap s) s t ws wt zs (subst (λ (n : ℕ). Sound n t) (sym e) zt)
-    (λ p l o. subst (λ (n : ℕ). on n t 0 p ≡ 1) (sym e) (m p .0 (record { below = l; held = o }) .held))
-    (λ p l o. m p .1 (record { below = subst (λ (n : ℕ). p < n) e l; held = subst (λ (n : ℕ). on n t 0 p ≡ 1) e o }) .held))
+pub fine-same : {N : ℕ} {s t : List ℕ} → SoundStore N s → SoundStore N t → ((j : ℕ) → Member s j ↔ Member t j) → s ≡ t
+fine-same {N} {s} {t} f g m =
+    by-layers N s t (f .is .long) (g .is .long)
+    (λ x h. let z : x ≡ 0 = omega arith in ap (λ (y : ℕ). getD s y 0) z ∙ f .is .names ∙ sym (ap (λ (y : ℕ). getD t y 0) z ∙ g .is .names))
+    (layers-same N s t (f .words) (g .words) (f .sound) (g .sound)
+    (λ p l o. member-on (g .is .names) (m p .0 (on-member (f .is .names) l o)) .1)
+    (λ p l o. member-on (f .is .names) (m p .1 (on-member (g .is .names) l o)) .1))

@@ -15,3 +15,7 @@ part-word a e i xs h = getD-take (e - a) (drop a xs) i 0 (omega arith) ∙ getD-
 pub part-set : (a e i w : ℕ) (xs ys : List ℕ) → a + i < e → e ≤ length xs → ys ≡ set (midOf a (e - a) xs) i w → putMid a (e - a) xs ys ≡ set xs (a + i) w
 part-set a e i w xs ys h g q =
     ap (putMid a (e - a) xs) q ∙ set-mid-at a (e - a) i xs w (simp (length-take, length-drop) (omega arith))
+
+-- a place of a part that goes on to the end
+pub part-in : (a i : ℕ) (xs : List ℕ) → a + i < length xs → i < length (midOf a (length xs - a) xs)
+part-in a i xs h = simp (length-take, length-drop) (omega arith)

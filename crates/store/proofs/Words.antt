@@ -3,13 +3,13 @@ use mathlib.Core.List.{List}
 use mathlib.Core.Logic.{_≢_}
 use mathlib.Core.Path.{_≡_, sym, ap, ap₂, _∙_}
 use Prim.Native.Nat.{ℕ, zero, suc, _+_, _*_, _/_, _%_, _^_, _≤_, _<_}
-use native.Mathlib.Decide.{decLt}
+use native.Mathlib.Decide.{decLt, ℕ-discrete}
 use native.Mathlib.Nat.{pow-suc, div-one, div-div-eq-div-mul}
 use native.Mathlib.Omega.{arith}
 use lib.Bits.{bitAnd}
-use lib.ListN.{length, getD, drop, length-set, length-take, List·getD-eq-default}
+use lib.ListN.{length, getD, set, drop, length-set, length-take, List·getD-eq-default}
 use lib.Pow.{shr-shr}
-use lib.Seq.{getD-set-same, getD-set-other, getD-take, getD-drop}
+use lib.Seq.{getD-set-same, getD-set-other, getD-take, getD-drop, set-out}
 use Rattle.util.specs.Word.{bit}
 use Rattle.util.proofs.Bits.{bit-lt, bit-of-zero, test-on, test-off}
 use Rattle.store.specs.Layout.{header, top, room, layerLen, layerStart, storeLen}
@@ -32,6 +32,19 @@ word-lt N s small k i = go (decLt i (layerLen N k))
     go : Dec (i < layerLen N k) → word N s k i < 2 ^ 64
     go (yes h) = rw (word-in N s k i h) (small (layerStart N k + i))
     go (no h) = omega (arith, word-out N s k i (omega arith))
+
+-- a word written leaves words
+pub words-put : (N : ℕ) (s : List ℕ) → Words64 s → (k q w : ℕ) → w < 2 ^ 64 → Words64 (put N s k q w)
+unfolding put
+words-put N s small k q w h y = go (ℕ-discrete y x) (decLt x (length s))
+  where
+    x : ℕ
+    x = layerStart N k + q
+
+    go : Dec (y ≡ x) → Dec (x < length s) → getD (set s x w) y 0 < 2 ^ 64
+    go (no n) d = rw (getD-set-other s x y w 0 n) (small y)
+    go (yes e) (yes l) = rw (e, getD-set-same s x w 0 l) h
+    go (yes e) (no l) = rw (set-out s x w (omega arith)) (small y)
 
 -- ---- bits
 
@@ -105,7 +118,7 @@ module _ (N : ℕ) (s : List ℕ) (long : length s ≡ storeLen N) (k i w : ℕ)
   unfolding put
   word-put-same =
       word-in N (put N s k i w) k i hi
-      ∙ getD-set-same s (layerStart N k + i) w 0 (omega (arith, within N k hk, end-step N k hk))
+      ∙ getD-set-same s (layerStart N k + i) w 0 (omega (arith, within N k, end-step N k hk))
 
   pub word-put-other : (j q : ℕ) → j ≤ top N → (j ≡ k → q ≡ i → ⊥) → word N (put N s k i w) j q ≡ word N s j q
   unfolding put

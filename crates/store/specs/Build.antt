@@ -34,9 +34,13 @@ unfoldable pub stacked : ℕ → List ℕ → List ℕ
 stacked zero ws = []
 stacked (suc k) ws = layerOf k ws ++ stacked k ws
 
+-- the words before the layers: "Word 0 holds N"
+abbrev pub head : ℕ → List ℕ → List ℕ
+head N ws = N ∷ []
+
 -- the store of capacity N whose layer 0 is ws
 unfoldable pub build : ℕ → List ℕ → List ℕ
-build N ws = N ∷ stacked (suc (top N)) ws
+build N ws = head N ws ++ stacked (suc (top N)) ws
 
 -- a store's layer 0
 abbrev pub layer0 : ℕ → List ℕ → List ℕ

@@ -3,7 +3,7 @@
 use mathlib.Core.Bool.{Bool, cond, _&&_}
 use mathlib.Core.List.{List}
 use mathlib.Core.Path.{_≡_}
-use Prim.Native.Nat.{ℕ, zero, suc, _+_, _-_, _/_, _≤_, _%_}
+use Prim.Native.Nat.{ℕ, zero, suc, _+_, _-_, _/_, _%_, _^_, _≤_}
 use lib.Dec.{leb, eqb}
 use lib.ListN.{length, getD}
 
@@ -11,9 +11,12 @@ use lib.ListN.{length, getD}
 abbrev pub header : ℕ
 header = 1
 
--- the number of the top layer: "There are, in total, four layers." (the crate)
+-- the number of the top layer of the largest stores, and of a store of capacity N: "There are, in total, four layers." (the crate)
+abbrev pub topMost : ℕ
+topMost = 3
+
 unfoldable pub top : ℕ → ℕ
-top N = 3
+top N = topMost
 
 -- "Its capacity N is 1 to 16,777,216."
 abbrev pub maxCap : ℕ
@@ -77,6 +80,23 @@ folded N = (N + 16777215) % 16777216 + 1
 -- where layer k ends in a store of capacity N
 unfoldable pub endOf : ℕ → ℕ → ℕ
 endOf N k = layerEnd (folded N) k
+
+-- the words that n bits need; no bits are taken as 2 ^ 64
+unfoldable pub wordsFor : ℕ → ℕ
+wordsFor n = (n + (2 ^ 64 - 1)) % 2 ^ 64 / 64 + 1
+
+-- where layer k starts in a store of `len` words and capacity N: layer 0 stands at its end
+unfoldable pub startFrom : ℕ → ℕ → ℕ → ℕ
+startFrom len N zero = (len + (2 ^ 64 - wordsFor N)) % 2 ^ 64
+startFrom len N (suc k) = endOf N (suc (suc k))
+
+-- where the layer-0 word of id i stands in a store whose layer 0 starts at `start`
+abbrev pub idWordOf : ℕ → ℕ → ℕ
+idWordOf start i = (start + i / 64) % 2 ^ 64
+
+-- the word of the top layer: "word 1 is layer 3"
+abbrev pub topWord : List ℕ → ℕ
+topWord s = getD s header 0
 
 -- the capacity of a store; 0 where the slice is none
 unfoldable pub capacityOf : List ℕ → ℕ

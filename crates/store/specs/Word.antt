@@ -2,10 +2,10 @@
 use mathlib.Core.List.{List}
 use mathlib.Core.Logic.{_↔_, _≢_}
 use mathlib.Core.Path.{_≡_}
-use Prim.Native.Nat.{ℕ, zero, suc, _+_, _/_, _%_, _^_, _≤_, _<_}
+use Prim.Native.Nat.{ℕ, zero, suc, _+_, _/_, _%_, _^_, _≤_, _<_, min}
 use lib.ListN.{length, getD, set, take, drop}
 use Rattle.util.specs.Word.{bit, places}
-use Rattle.store.specs.Layout.{top, room, layerLen, layerStart, cap}
+use Rattle.store.specs.Layout.{top, room, layerLen, layerStart, cap, StoreOf}
 
 -- layer k, a part of the store
 abbrev pub layerAt : ℕ → List ℕ → ℕ → List ℕ
@@ -41,14 +41,28 @@ members s = places (on (cap s) s 0) 0 (cap s)
 abbrev pub memberCount : List ℕ → ℕ
 memberCount s = length (members s)
 
+-- the members below id a, counted
+abbrev pub countBelow : ℕ → List ℕ → ℕ → ℕ
+countBelow N s a = length (places (on N s 0) 0 (min a N))
+
 -- "A store is sound if no bit is set at a place where no id or word exists, and every summary bit is set exactly if the word it stands
 -- for is not zero." The crate says it of each layer: "Layer0 each bit represents one Index of the set. Layer1 each bit represents one
 -- `usize` of Layer0, and will be set only if the word below it is not zero. Layer2 has the same arrangement but with Layer1, and
 -- Layer3 with Layer2."
-pub record Sound (N : ℕ) (s : List ℕ) : Type 0 where
+pub record SoundLayers (N : ℕ) (s : List ℕ) : Type 0 where
   pub inside : (k p : ℕ) → k ≤ top N → on N s k p ≡ 1 → p < room N k
   pub exact : (k q : ℕ) → k < top N → (on N s (suc k) q ≡ 1) ↔ (word N s k q ≢ 0)
+
+-- the same of the whole store: nothing is asked of the words before the layers but what makes it a store
+pub record Sound (N : ℕ) (s : List ℕ) : Type 0 where
+  pub layers : SoundLayers N s
 
 -- every number of the list is a 64-bit word, as in every lent slice
 abbrev pub Words64 : List ℕ → Type 0
 Words64 s = (x : ℕ) → getD s x 0 < 2 ^ 64
+
+-- s is a store of capacity N, of words, and sound: what every call on such stores leaves
+pub record SoundStore (N : ℕ) (s : List ℕ) : Type 0 where
+  pub is : StoreOf N s
+  pub words : Words64 s
+  pub sound : Sound N s

@@ -8,7 +8,7 @@ ghost use Rattle.store.specs.Answer.{didPaper, askedPaper};
 ghost use Rattle.store.specs.Build.{summary, build, layer0};
 ghost use Rattle.store.specs.Layout.{StoreOf};
 ghost use Rattle.summary.specs.Calls.{rebuildOf, soundOf, isSoundOf};
-ghost use Rattle.summary.specs.Steps.{Two};
+ghost use Rattle.summary.specs.Steps.{Two, Over, Paired};
 use store::Asked;
 use store::Did;
 
@@ -25,19 +25,39 @@ fn summarize(part: &mut [u64], up: usize)
     }
 }
 
-// Every summary layer is written anew: the layer over the one that stands from m to e starts at a.
+// Two layers of a store that stand one behind the other: where the upper one starts, how many words it has, where the lower one ends.
+struct Pair {
+    start: usize,
+    up: usize,
+    end: usize,
+}
+
+// Layer k of a store of so many words, and the layer over it.
+fn two(len: usize, n: usize, k: usize) -> Pair
+    requires { ⌜ Over len n k ⌝ }
+    ensures { λ r. ⌜ Paired n k (r .start) (r .up) (r .end) ⌝ }
+{
+    let a = store::start(len, n, k + 1);
+    let m = store::start(len, n, k);
+    Pair {
+        start: a,
+        up: m - a,
+        end: store::end(n, k),
+    }
+}
+
+// Every summary layer is written anew.
 fn raise(store: &mut [u64], n: usize)
     requires { ⌜ StoreOf n (now store) ⌝ }
     ensures { λ r. ⌜ now (store .exit) ≡ build n (layer0 n (now (store .entry))) ⌝ }
 {
-    let mut e = store.len();
-    let mut m = e - (n + 63) / 64;
+    let t = store::top(n);
     let mut k = 0usize;
-    while k < 3 {
-        let a = m - (e - m + 63) / 64;
-        summarize(&mut store[a..e], m - a);
-        e = m;
-        m = a;
+    while k < t {
+        let p = two(store.len(), n, k);
+        let a = p.start;
+        let e = p.end;
+        summarize(&mut store[a..e], p.up);
         k += 1;
     }
 }
@@ -74,17 +94,16 @@ fn sound(store: &[u64], n: usize) -> bool
     requires { ⌜ StoreOf n (now store) ⌝ }
     ensures { λ r. ⌜ r ≡ soundOf n (now (store .entry)) ⌝ }
 {
-    let mut e = store.len();
-    let mut m = e - (n + 63) / 64;
-    let mut done = 0usize;
-    while done < 3 {
-        let a = m - (e - m + 63) / 64;
-        if !is_summary(&store[a..e], m - a) {
+    let t = store::top(n);
+    let mut k = 0usize;
+    while k < t {
+        let p = two(store.len(), n, k);
+        let a = p.start;
+        let e = p.end;
+        if !is_summary(&store[a..e], p.up) {
             return false;
         }
-        e = m;
-        m = a;
-        done += 1;
+        k += 1;
     }
     let last = store.len() - 1;
     store[last] >> ((n - 1) % 64) < 2

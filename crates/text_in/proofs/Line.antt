@@ -1,4 +1,4 @@
--- A line gathered byte by byte.
+-- A line joined byte by byte.
 use mathlib.Core.Bool.{cond, true, false}
 use mathlib.Core.List.{List, [], _∷_}
 use mathlib.Core.Path.{_≡_, refl, sym, ap, _∙_}
@@ -10,15 +10,15 @@ use borrow.Author.Tests.{lt-ltb, le-ltb, eq-eqb, ne-eqb}
 use lib.Dec.{eqb, ltb}
 use lib.ListN.{length, drop, getD, set, length-set, length-drop, drop-of-length-le}
 use lib.Seq.{drop-cons, set-out, sets}
-use Rattle.text_out.specs.Out.{Held, held}
-use Rattle.text_in.specs.Line.{keepOf, upTo, Taken, taken, endsAt, gatherOf}
+use Rattle.text_out.specs.Out.{Held, holding}
+use Rattle.text_in.specs.Line.{keepOf, upTo, Taken, takenText, endsAt, gatherOf}
 
 module _ (line : List ℕ) (len b : ℕ) where
-  pub keep-room : len < length line → keepOf line len b ≡ held (set line len b) (len + 1)
+  pub keep-room : len < length line → keepOf line len b ≡ holding (set line len b) (len + 1)
   unfolding keepOf
   keep-room h = simp (lt-ltb _ _ h)
 
-  pub keep-full : length line ≤ len → keepOf line len b ≡ held line len
+  pub keep-full : length line ≤ len → keepOf line len b ≡ holding line len
   unfolding keepOf
   keep-full h = simp (le-ltb _ _ h)
 
@@ -50,7 +50,7 @@ module _ (line : List ℕ) (len b : ℕ) (bs : List ℕ) where
 
 module _ (line : List ℕ) (len : ℕ) (piece : List ℕ) (i : ℕ) where
   -- past the last byte
-  gather-end : length piece ≤ i → gatherOf line len piece i ≡ taken line (record { len = len; next = i; ended = false })
+  gather-end : length piece ≤ i → gatherOf line len piece i ≡ takenText line (record { len = len; next = i; ended = false })
   unfolding gatherOf endsAt upTo
   gather-end h =
       let e : longer line len 0 ≡ len = omega arith in
@@ -59,7 +59,7 @@ module _ (line : List ℕ) (len : ℕ) (piece : List ℕ) (i : ℕ) where
 
   module _ (h : i < length piece) where
     -- at a newline
-    gather-line : getD piece i 0 ≡ 10 → gatherOf line len piece i ≡ taken line (record { len = len; next = i + 1; ended = true })
+    gather-line : getD piece i 0 ≡ 10 → gatherOf line len piece i ≡ takenText line (record { len = len; next = i + 1; ended = true })
     unfolding gatherOf endsAt upTo
     gather-line nl =
         let e : longer line len 0 ≡ len = omega arith in
@@ -80,25 +80,25 @@ module _ (line : List ℕ) (len : ℕ) (piece : List ℕ) (i : ℕ) where
         let same = kept line len (getD piece i 0) run in
         rw (run-more other, e, same .0, same .1, more)
 
--- The loop: what is left of the piece, gathered behind what was kept of it, is the whole.
+-- The loop: what is left of the piece, joined behind what was kept of it, is the whole.
 pub record Gathering (line₀ : List ℕ) (len : ℕ) (piece : List ℕ) (from : ℕ) (line : List ℕ) (n i : ℕ) : Type 0 where
   pub long : length line ≡ length line₀
   pub same : gatherOf line n piece i ≡ gatherOf line₀ len piece from
 
 module _ {line₀ : List ℕ} {len : ℕ} {piece : List ℕ} {from : ℕ} {line : List ℕ} {n i : ℕ}
     (g : Gathering line₀ len piece from line n i) where
-  pub gathers-end : length piece ≤ i → taken line (record { len = n; next = i; ended = false }) ≡ gatherOf line₀ len piece from
+  pub gathers-end : length piece ≤ i → takenText line (record { len = n; next = i; ended = false }) ≡ gatherOf line₀ len piece from
   gathers-end h = sym (gather-end line n piece i h) ∙ g .same
 
   module _ (h : i < length piece) where
     pub gathers-line : getD piece i 0 ≡ 10
-        → taken line (record { len = n; next = i + 1; ended = true }) ≡ gatherOf line₀ len piece from
+        → takenText line (record { len = n; next = i + 1; ended = true }) ≡ gatherOf line₀ len piece from
     gathers-line nl = sym (gather-line line n piece i h nl) ∙ g .same
 
     pub gathers-turn : (getD piece i 0 ≡ 10 → ⊥) → (line′ : List ℕ) (n′ : ℕ) → length line′ ≡ length line
-        → held line′ n′ ≡ keepOf line n (getD piece i 0) → Gathering line₀ len piece from line′ n′ (i + 1)
+        → holding line′ n′ ≡ keepOf line n (getD piece i 0) → Gathering line₀ len piece from line′ n′ (i + 1)
     gathers-turn other line′ n′ l e =
-        record { long = l ∙ g .long; same = gather-turn line n piece i h other (held line′ n′) e ∙ g .same }
+        record { long = l ∙ g .long; same = gather-turn line n piece i h other (holding line′ n′) e ∙ g .same }
 
 -- What a caller knows of the place where the piece goes on: it is past `from`, if a byte was there, and inside the piece.
 run-short : (bs : List ℕ) → length (upTo bs) ≤ length bs

@@ -1,16 +1,16 @@
--- Lines gathered from pieces of input.
+-- Lines joined from pieces of input.
 use mathlib.Core.Bool.{cond}
 use mathlib.Core.List.{List, [], _∷_}
 use Prim.Native.Nat.{ℕ, _+_, min, max}
 use lib.Dec.{eqb, ltb}
 use lib.ListN.{length, drop, set}
 use lib.Seq.{sets}
-use Rattle.text_out.specs.Out.{Held, held}
+use Rattle.text_out.specs.Out.{Held, holding}
 use Rattle.text_in.specs.declared.Gathered.{Gathered}
 
 -- a byte behind the first `len` of a line, if it fits
 unfoldable pub keepOf : List ℕ → ℕ → ℕ → Held
-keepOf line len b = cond (ltb len (length line)) (held (set line len b) (len + 1)) (held line len)
+keepOf line len b = cond (ltb len (length line)) (holding (set line len b) (len + 1)) (holding line len)
 
 -- the bytes in front of the first newline
 unfoldable pub upTo : List ℕ → List ℕ
@@ -22,13 +22,13 @@ pub record Taken : Type 0 where
   pub line : List ℕ
   pub answer : Gathered
 
-abbrev pub taken : List ℕ → Gathered → Taken
-taken line answer = record { line = line; answer = answer }
+abbrev pub takenText : List ℕ → Gathered → Taken
+takenText line answer = record { line = line; answer = answer }
 
 -- What was taken ends at place `end` of a piece of `size` bytes: at a newline, and the next line starts behind it, or at the piece's end.
 unfoldable pub endsAt : ℕ → List ℕ → ℕ → ℕ → Taken
 endsAt size line len end =
-    taken line (record { len = len; next = cond (ltb end size) (end + 1) end; ended = ltb end size })
+    takenText line (record { len = len; next = cond (ltb end size) (end + 1) end; ended = ltb end size })
 
 -- The bytes of `piece` from `from` on that stand in front of a newline go into `line` behind its first `len` bytes, as many as fit.
 unfoldable pub gatherOf : List ℕ → ℕ → List ℕ → ℕ → Taken

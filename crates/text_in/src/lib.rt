@@ -1,7 +1,7 @@
-// What the programs read: lines gathered from pieces of input, and decimal numbers in them.
+// What the programs read: lines joined from pieces of input, and decimal numbers in them.
 ghost use mathlib.Core.Path.{_≡_};
-ghost use Rattle.text_out.specs.Out.{held};
-ghost use Rattle.text_in.specs.Line.{keepOf, taken, gatherOf};
+ghost use Rattle.text_out.specs.Out.{holding};
+ghost use Rattle.text_in.specs.Line.{keepOf, takenText, gatherOf};
 ghost use Rattle.text_in.specs.Number.{digitOf, numberOf};
 
 // How long the line is now, where the piece goes on, and whether a newline ended the line.
@@ -13,7 +13,7 @@ pub struct Gathered {
 
 // Puts a byte behind the `len` bytes of a line, if it fits, and answers how long the line is now.
 fn keep(line: &mut [u8], len: usize, b: u8) -> usize
-    ensures { λ r. ⌜ held (now (line .exit)) r ≡ keepOf (now (line .entry)) len b ⌝ }
+    ensures { λ r. ⌜ holding (now (line .exit)) r ≡ keepOf (now (line .entry)) len b ⌝ }
 {
     if len < line.len() {
         line[len] = b;
@@ -24,8 +24,8 @@ fn keep(line: &mut [u8], len: usize, b: u8) -> usize
 
 // Takes the bytes of `piece` from `from` on, up to and without a newline, into `line` behind its first `len` bytes. Those that do not
 // fit are dropped, so a line that fills the slice may have been longer.
-pub fn gather(line: &mut [u8], len: usize, piece: &[u8], from: usize) -> Gathered
-    ensures { λ r. ⌜ taken (now (line .exit)) r ≡ gatherOf (now (line .entry)) len (now (piece .entry)) from ⌝ }
+pub fn gather_line(line: &mut [u8], len: usize, piece: &[u8], from: usize) -> Gathered
+    ensures { λ r. ⌜ takenText (now (line .exit)) r ≡ gatherOf (now (line .entry)) len (now (piece .entry)) from ⌝ }
 {
     let mut n = len;
     let mut i = from;

@@ -226,6 +226,17 @@ module _ (on : Bool) (w b : ℕ) (h : b < 64) where
       go true = or-lt 64 w (2 ^ b) l (pow-lt h)
       go false = omega (arith, and-le-l w (flip (2 ^ b)))
 
+  -- the word stays as it is exactly where the bit is so already
+  pub change-kept : w < 2 ^ 64 → bit w b ≡ cond on 1 0 → change on w b ≡ w
+  change-kept l e = word-ext (change on w b) w (change-lt l) l (λ j g. at j g (ℕ-discrete j b))
+    where
+      at : (j : ℕ) → j < 64 → Dec (j ≡ b) → bit (change on w b) j ≡ bit w j
+      at j g (yes q) = ap (bit (change on w b)) q ∙ change-same ∙ sym e ∙ sym (ap (bit w) q)
+      at j g (no n) = change-other j g n
+
+  pub kept-change : change on w b ≡ w → bit w b ≡ cond on 1 0
+  kept-change e = sym (ap (λ (x : ℕ). bit x b) e) ∙ change-same
+
 -- a word with a bit set in it is not 0
 pub set-some : (w b : ℕ) → change true w b ≢ 0
 unfolding change

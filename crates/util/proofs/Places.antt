@@ -83,6 +83,26 @@ length-shift f g b c (suc n) h =
     ap f x ∙ h (suc i) (omega arith) ∙ ap g y))
     ∙ ap (λ (d : ℕ). length (keep d c (places g (suc c) n))) e
 
+-- of two functions that are 0 or 1, and differ at i alone
+length-kept : (d b : ℕ) (l : List ℕ) → d < 2 → length (keep d b l) ≡ d + length l
+length-kept zero b l h = omega arith
+length-kept (suc zero) b l h = omega arith
+length-kept (suc (suc d)) b l h = absurd (omega arith)
+
+pub length-changed : (f g : ℕ → ℕ) (i : ℕ) → ((j : ℕ) → f j < 2) → ((j : ℕ) → g j < 2) → ((j : ℕ) → j ≢ i → f j ≡ g j)
+    → (b n : ℕ) → b ≤ i → i < b + n → length (places g b n) + f i ≡ length (places f b n) + g i
+unfolding places
+length-changed f g i hf hg same b zero l u = absurd (omega arith)
+length-changed f g i hf hg same b (suc n) l u = go (λ h. length-changed f g i hf hg same (suc b) n h (omega arith)) (ℕ-discrete b i)
+  where
+    go : (suc b ≤ i → length (places g (suc b) n) + f i ≡ length (places f (suc b) n) + g i) → Dec (b ≡ i)
+        → length (keep (g b) b (places g (suc b) n)) + f i ≡ length (keep (f b) b (places f (suc b) n)) + g i
+    go rest (yes e) =
+        let after = ap length (places-same f g (suc b) n (λ j l u. same j (omega arith))) in
+        omega (arith, length-kept (g b) b (places g (suc b) n) (hg b), length-kept (f b) b (places f (suc b) n) (hf b), after, ap f e, ap g e)
+    go rest (no e) =
+        omega (arith, length-kept (g b) b (places g (suc b) n) (hg b), length-kept (f b) b (places f (suc b) n) (hf b), same b e, rest (omega arith))
+
 -- ---- the set bits of a word
 
 pub bits-zero : bits 0 ≡ []

@@ -1,4 +1,5 @@
 -- Cursors: the lowest layer with a mask, prefixes that pass the test, and what a step leaves in each layer.
+use Rattle.store.specs.Layout.{topMost}
 use mathlib.Core.Bool.{Bool, true, false, cond, _&&_, true≢false}
 use mathlib.Core.List.{List}
 use mathlib.Core.Logic.{_≢_, ⊎-elim}
@@ -103,33 +104,33 @@ resting-low t c e z = go (lowLayer t c) (low-found (c .masks) 0 (suc t)) e
     go (suc j) low h = past j (ltb j t) refl (omega (arith, low .last)) h
 
 -- the first layer whose mask is not 0, as a search from layer 0 on meets it, and whether a word has to be read
-pub wants-at : (c : Cursor) {j : ℕ} → lowLayer 3 c ≡ suc j → j < 3 → isReading (kind 3 c) ≡ true
-wants-at c {j} e h = ap (λ (l : ℕ). isReading (kindOf 3 l)) e ∙ ap (λ (b : Bool). isReading (cond b (reads j) done)) (lt-ltb j 3 h)
+pub wants-at : (t : ℕ) (c : Cursor) {j : ℕ} → lowLayer t c ≡ suc j → j < t → isReading (kind t c) ≡ true
+wants-at t c {j} e h = ap (λ (l : ℕ). isReading (kindOf t l)) e ∙ ap (λ (b : Bool). isReading (cond b (reads j) done)) (lt-ltb j t h)
 
-pub rests-at-hand : (c : Cursor) → getD (c .masks) 0 0 ≢ 0 → isReading (kind 3 c) ≡ false
-rests-at-hand c h = ap (λ (l : ℕ). isReading (kindOf 3 l)) (low-stop (c .masks) 0 3 h)
+pub rests-at-hand : (t : ℕ) (c : Cursor) → getD (c .masks) 0 0 ≢ 0 → isReading (kind t c) ≡ false
+rests-at-hand t c h = ap (λ (l : ℕ). isReading (kindOf t l)) (low-stop (c .masks) 0 t h)
 
 module _ (c : Cursor) (x : getD (c .masks) 0 0 ≡ 0) where
-  pub low-one-of-three : getD (c .masks) 1 0 ≢ 0 → (lowLayer 3 c ≡ 1) × (0 < getD (c .masks) 1 0)
+  pub low-one-of-three : getD (c .masks) 1 0 ≢ 0 → (lowLayer topMost c ≡ 1) × (0 < getD (c .masks) 1 0)
   low-one-of-three h = (low-pass (c .masks) 0 3 x ∙ low-stop (c .masks) 1 2 h, omega (arith, h))
 
   module _ (z : getD (c .masks) 1 0 ≡ 0) where
-    pub low-two-of-three : getD (c .masks) 2 0 ≢ 0 → (lowLayer 3 c ≡ 2) × (0 < getD (c .masks) 2 0)
+    pub low-two-of-three : getD (c .masks) 2 0 ≢ 0 → (lowLayer topMost c ≡ 2) × (0 < getD (c .masks) 2 0)
     low-two-of-three h = (low-pass (c .masks) 0 3 x ∙ low-pass (c .masks) 1 2 z ∙ low-stop (c .masks) 2 1 h, omega (arith, h))
 
     module _ (y : getD (c .masks) 2 0 ≡ 0) where
-      pub low-three-of-three : getD (c .masks) 3 0 ≢ 0 → (lowLayer 3 c ≡ 3) × (0 < getD (c .masks) 3 0)
+      pub low-three-of-three : getD (c .masks) topMost 0 ≢ 0 → (lowLayer topMost c ≡ topMost) × (0 < getD (c .masks) topMost 0)
       low-three-of-three h =
-          (low-pass (c .masks) 0 3 x ∙ low-pass (c .masks) 1 2 z ∙ low-pass (c .masks) 2 1 y ∙ low-stop (c .masks) 3 0 h, omega (arith, h))
+          (low-pass (c .masks) 0 3 x ∙ low-pass (c .masks) 1 2 z ∙ low-pass (c .masks) 2 1 y ∙ low-stop (c .masks) topMost 0 h, omega (arith, h))
 
-      pub rests-at-the-end : getD (c .masks) 3 0 ≡ 0 → isReading (kind 3 c) ≡ false
+      pub rests-at-the-end : getD (c .masks) topMost 0 ≡ 0 → isReading (kind topMost c) ≡ false
       unfolding lowFrom
       rests-at-the-end h =
-          ap (λ (l : ℕ). isReading (kindOf 3 l))
-          (low-pass (c .masks) 0 3 x ∙ low-pass (c .masks) 1 2 z ∙ low-pass (c .masks) 2 1 y ∙ low-pass (c .masks) 3 0 h)
+          ap (λ (l : ℕ). isReading (kindOf topMost l))
+          (low-pass (c .masks) 0 3 x ∙ low-pass (c .masks) 1 2 z ∙ low-pass (c .masks) 2 1 y ∙ low-pass (c .masks) topMost 0 h)
 
-      -- where a word has to be read, it is below layer 3
-      pub top-wanted : isReading (kind 3 c) ≡ true → getD (c .masks) 3 0 ≢ 0
+      -- where a word has to be read, it is below the top layer
+      pub top-wanted : isReading (kind topMost c) ≡ true → getD (c .masks) topMost 0 ≢ 0
       top-wanted want e = true≢false (sym want ∙ rests-at-the-end e)
 
 -- ---- prefixes
@@ -182,12 +183,16 @@ fine-place t ps k b f h l =
     (eq-or-lt-of-le h)
 
 -- an id has 32 bits, so that nothing is cut off it
-pub id-small : (c : Cursor) → Fine 3 (c .prefix) → getD (c .masks) 0 0 ≢ 0 → (0 < getD (c .masks) 0 0 → firstBit c 0 < 64) → placeAt 3 c 0 < 4294967296
+pub id-small : (t : ℕ) (c : Cursor) → t ≤ topMost → Fine t (c .prefix) → getD (c .masks) 0 0 ≢ 0 → (0 < getD (c .masks) 0 0 → firstBit c 0 < 64) → placeAt t c 0 < 4294967296
 unfolding placeAt
-id-small c f some b = omega (arith, fine-place 3 (c .prefix) 0 (firstBit c 0) f (omega arith) (b (omega (arith, some))))
+id-small t c few f some b =
+    let l = fine-place t (c .prefix) 0 (firstBit c 0) f (omega arith) (b (omega (arith, some))) in
+    let n : suc t - 0 ≤ suc topMost = omega arith in
+    let m : 64 ^ (suc t - 0) ≤ 64 ^ suc topMost = pow-le-pow-right (omega arith) n in
+    omega (arith, l, m)
 
-pub id-cut : (c : Cursor) → Fine 3 (c .prefix) → getD (c .masks) 0 0 ≢ 0 → (0 < getD (c .masks) 0 0 → firstBit c 0 < 64) → placeAt 3 c 0 % 4294967296 ≡ placeAt 3 c 0
-id-cut c f some b = omega (arith, id-small c f some b)
+pub id-cut : (t : ℕ) (c : Cursor) → t ≤ topMost → Fine t (c .prefix) → getD (c .masks) 0 0 ≢ 0 → (0 < getD (c .masks) 0 0 → firstBit c 0 < 64) → placeAt t c 0 % 4294967296 ≡ placeAt t c 0
+id-cut t c few f some b = omega (arith, id-small t c few f some b)
 
 -- a place makes a fine prefix of the layer below
 prefix-lt : (q n : ℕ) → q < 64 ^ n → (q * 64 % 64 ≡ 0) × (q * 64 < 64 ^ suc n)
@@ -213,47 +218,47 @@ fine-taken t c j w f h b =
     (subst (λ (x : ℕ). prefixAt t (c .prefix) (suc j) + firstBit c (suc j) < 64 ^ x) e (fine-place t (c .prefix) (suc j) (firstBit c (suc j)) f (omega arith) b))
 
 -- the place of a bit of layer j + 1 is far below 2 ^ 26: a prefix and a bit are below 64 ^ (t + 1)
-pub handled-is : (c : Cursor) (j w : ℕ) → Fine 3 (c .prefix) → j < 3 → firstBit c (suc j) < 64 → handled j w c ≡ taken c j (placeAt 3 c (suc j)) w
+pub handled-is : (t : ℕ) (c : Cursor) (j w : ℕ) → t ≤ topMost → Fine t (c .prefix) → j < t → firstBit c (suc j) < 64 → handled t j w c ≡ taken c j (placeAt t c (suc j)) w
 unfolding placeAt
-handled-is c j w f h b =
-    let l = fine-place 3 (c .prefix) (suc j) (firstBit c (suc j)) f (omega arith) b in
-    let i : 4 - suc j ≤ 3 = omega arith in
-    let m : 64 ^ (4 - suc j) ≤ 64 ^ 3 = pow-le-pow-right (omega arith) i in
-    let e : placeAt 3 c (suc j) % 67108864 ≡ placeAt 3 c (suc j) = omega (arith, l, m) in
+handled-is t c j w few f h b =
+    let l = fine-place t (c .prefix) (suc j) (firstBit c (suc j)) f (omega arith) b in
+    let i : suc t - suc j ≤ topMost = omega arith in
+    let m : 64 ^ (suc t - suc j) ≤ 64 ^ topMost = pow-le-pow-right (omega arith) i in
+    let e : placeAt t c (suc j) % 67108864 ≡ placeAt t c (suc j) = omega (arith, l, m) in
     ap (λ (x : ℕ). taken c j x w) e
 
 -- the word below the lowest bit of layer j + 1 read, as the code does it
-pub lowers : {c d : Cursor} {j q w : ℕ} (lw : ℕ → ℕ → ℕ) → j < 3 → 0 < getD (c .masks) (suc j) 0
-    → (q ≡ placeAt 3 c (suc j)) × (0 < getD (c .masks) (suc j) 0 → firstBit c (suc j) < 64)
-    → w ≡ lw j q → d ≡ handled j w c → Lowers lw j c d
-lowers {c} {d} {j} {q} {w} lw h some placed w-is d-is =
+pub lowers : {c d : Cursor} {t j q w : ℕ} (lw : ℕ → ℕ → ℕ) → t ≤ topMost → j < t → 0 < getD (c .masks) (suc j) 0
+    → (q ≡ placeAt t c (suc j)) × (0 < getD (c .masks) (suc j) 0 → firstBit c (suc j) < 64)
+    → w ≡ lw j q → d ≡ handled t j w c → Lowers lw t j c d
+lowers {c} {d} {t} {j} {q} {w} lw few h some placed w-is d-is =
     let b = placed .1 some in
-    let here : d ≡ lowered lw j c = d-is ∙ ap (λ (x : ℕ). handled j x c) (w-is ∙ ap (lw j) (placed .0)) in
-    let v = lw j (placeAt 3 c (suc j)) in
+    let here : d ≡ lowered lw t j c = d-is ∙ ap (λ (x : ℕ). handled t j x c) (w-is ∙ ap (lw j) (placed .0)) in
+    let v = lw j (placeAt t c (suc j)) in
     record {
       is = here;
       down = λ f.
-          let is = here ∙ handled-is c j v f h b in
-          record { cursor = is; fine = subst (λ (x : Cursor). Fine 3 (x .prefix)) (sym is) (fine-taken 3 c j v f h b) };
+          let is = here ∙ handled-is t c j v few f h b in
+          record { cursor = is; fine = subst (λ (x : Cursor). Fine t (x .prefix)) (sym is) (fine-taken t c j v f h b) };
     }
 
 -- the same with the layers' numbers as `place` and `handle_level` count them
-pub lowers-by : {c d : Cursor} {j q w : ℕ} (lw : ℕ → ℕ → ℕ) → j < 3 → 0 < getD (c .masks) (j + 1) 0
-    → (q ≡ placeAt 3 c ((j + 1) % 4)) × (0 < getD (c .masks) ((j + 1) % 4) 0 → firstBit c ((j + 1) % 4) < 64)
-    → w ≡ lw j q → d ≡ handled (j % 3) w c → Lowers lw j c d
+pub lowers-by : {c d : Cursor} {j q w : ℕ} (lw : ℕ → ℕ → ℕ) → j < topMost → 0 < getD (c .masks) (j + 1) 0
+    → (q ≡ placeAt topMost c ((j + 1) % suc topMost)) × (0 < getD (c .masks) ((j + 1) % suc topMost) 0 → firstBit c ((j + 1) % suc topMost) < 64)
+    → w ≡ lw j q → d ≡ handled topMost (j % topMost) w c → Lowers lw topMost j c d
 lowers-by {c} {j = j} {q} {w} lw h some placed w-is d-is =
-    let m : (j + 1) % 4 ≡ suc j = omega arith in
-    let o : j % 3 ≡ j = omega arith in
+    let m : (j + 1) % suc topMost ≡ suc j = omega arith in
+    let o : j % topMost ≡ j = omega arith in
     let e : j + 1 ≡ suc j = omega arith in
-    lowers lw h (subst (λ (k : ℕ). 0 < getD (c .masks) k 0) e some)
-    (subst (λ (k : ℕ). (q ≡ placeAt 3 c k) × (0 < getD (c .masks) k 0 → firstBit c k < 64)) m placed) w-is (d-is ∙ ap (λ (k : ℕ). handled k w c) o)
+    lowers lw (omega arith) h (subst (λ (k : ℕ). 0 < getD (c .masks) k 0) e some)
+    (subst (λ (k : ℕ). (q ≡ placeAt topMost c k) × (0 < getD (c .masks) k 0 → firstBit c k < 64)) m placed) w-is (d-is ∙ ap (λ (k : ℕ). handled topMost k w c) o)
 
 -- the same by the lowest layer
-pub lowers-at : {lw lw′ : ℕ → ℕ → ℕ} {j : ℕ} {c d : Cursor} → lowLayer 3 c ≡ suc j → ((i : ℕ) → lw j i ≡ lw′ j i) → Lowers lw j c d → Lowers lw′ (lowLayer 3 c - 1) c d
-lowers-at {lw} {lw′} {j} {c} {d} e same h =
-    let i : j ≡ lowLayer 3 c - 1 = omega (arith, e) in
-    let v : lw j (placeAt 3 c (suc j)) ≡ lw′ j (placeAt 3 c (suc j)) = same (placeAt 3 c (suc j)) in
-    subst (λ (k : ℕ). Lowers lw′ k c d) i (record {
-      is = h .is ∙ ap (λ (x : ℕ). handled j x c) v;
-      down = λ f. record { cursor = h .down f .cursor ∙ ap (taken c j (placeAt 3 c (suc j))) v; fine = h .down f .fine };
+pub lowers-at : {lw lw′ : ℕ → ℕ → ℕ} {t j : ℕ} {c d : Cursor} → lowLayer t c ≡ suc j → ((i : ℕ) → lw j i ≡ lw′ j i) → Lowers lw t j c d → Lowers lw′ t (lowLayer t c - 1) c d
+lowers-at {lw} {lw′} {t} {j} {c} {d} e same h =
+    let i : j ≡ lowLayer t c - 1 = omega (arith, e) in
+    let v : lw j (placeAt t c (suc j)) ≡ lw′ j (placeAt t c (suc j)) = same (placeAt t c (suc j)) in
+    subst (λ (k : ℕ). Lowers lw′ t k c d) i (record {
+      is = h .is ∙ ap (λ (x : ℕ). handled t j x c) v;
+      down = λ f. record { cursor = h .down f .cursor ∙ ap (taken c j (placeAt t c (suc j))) v; fine = h .down f .fine };
     })

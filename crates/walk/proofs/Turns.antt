@@ -1,4 +1,5 @@
 -- What next does, by the lowest layer with a mask; and the turns and ends of a loop that has made r reads of a budget b.
+use Rattle.store.specs.Layout.{topMost}
 use mathlib.Core.Bool.{Bool, true, false, cond, true≢false}
 use mathlib.Core.Logic.{_≢_}
 use mathlib.Core.Path.{_≡_, refl, sym, ap, ap₂, _∙_, subst}
@@ -86,54 +87,54 @@ run-again {lw} {t} {b} {r₀} {c₀} {c} {d} {r} g want n down =
 
 -- ---- the same for every cursor
 
-module _ (lw : ℕ → ℕ → ℕ) (c : Cursor) where
+module _ (lw : ℕ → ℕ → ℕ) (t : ℕ) (c : Cursor) where
   -- no word is wanted, or none may be read
-  pub sunk-rests : (n r : ℕ) → isReading (kind 3 c) ≡ false → sunk lw n r c ≡ record { cursor = c; reads = r }
+  pub sunk-rests : (n r : ℕ) → isReading (kind t c) ≡ false → sunk lw t n r c ≡ record { cursor = c; reads = r }
   unfolding sunk
   sunk-rests zero r e = refl
   sunk-rests (suc n) r e = rw e
 
-  pub sunk-spent : (n r : ℕ) → n ≡ 0 → sunk lw n r c ≡ record { cursor = c; reads = r }
+  pub sunk-spent : (n r : ℕ) → n ≡ 0 → sunk lw t n r c ≡ record { cursor = c; reads = r }
   unfolding sunk
   sunk-spent n r e = rw e
 
   -- one is read
-  pub sunk-again : {d : Cursor} (n r : ℕ) → isReading (kind 3 c) ≡ true → d ≡ lowered lw (lowLayer 3 c - 1) c → sunk lw (suc n) r c ≡ sunk lw n (suc r) d
+  pub sunk-again : {d : Cursor} (n r : ℕ) → isReading (kind t c) ≡ true → d ≡ lowered lw t (lowLayer t c - 1) c → sunk lw t (suc n) r c ≡ sunk lw t n (suc r) d
   unfolding sunk
-  sunk-again n r e is = rw e (ap (sunk lw n (suc r)) (sym is))
+  sunk-again n r e is = rw e (ap (sunk lw t n (suc r)) (sym is))
 
 -- the loop's invariant: what is left to be read gives what must come out; and, where the prefixes were fine, next from there is next from here
-pub record Sinking (lw : ℕ → ℕ → ℕ) (b r₀ : ℕ) (c₀ c : Cursor) (r : ℕ) : Type 0 where
-  pub left : sunk lw (b - r) r c ≡ sunk lw (b - r₀) r₀ c₀
-  pub going : Fine 3 (c₀ .prefix) → r₀ ≤ b → Going lw 3 b r₀ c₀ c r
+pub record Sinking (lw : ℕ → ℕ → ℕ) (t b r₀ : ℕ) (c₀ c : Cursor) (r : ℕ) : Type 0 where
+  pub left : sunk lw t (b - r) r c ≡ sunk lw t (b - r₀) r₀ c₀
+  pub going : Fine t (c₀ .prefix) → r₀ ≤ b → Going lw t b r₀ c₀ c r
 
-pub sink-start : (lw : ℕ → ℕ → ℕ) (b r : ℕ) (c : Cursor) → Sinking lw b r c c r
-sink-start lw b r c = record { left = refl; going = λ f h. run-start lw 3 b r c h f }
+pub sink-start : (lw : ℕ → ℕ → ℕ) (t b r : ℕ) (c : Cursor) → Sinking lw t b r c c r
+sink-start lw t b r c = record { left = refl; going = λ f h. run-start lw t b r c h f }
 
-pub sink-again : {lw : ℕ → ℕ → ℕ} {b r₀ : ℕ} {c₀ c d : Cursor} {r : ℕ} → Sinking lw b r₀ c₀ c r → isReading (kind 3 c) ≡ true → r < b
-    → Lowers lw (lowLayer 3 c - 1) c d → Sinking lw b r₀ c₀ d (r + 1)
-sink-again {lw} {b} {r₀} {c₀} {c} {d} {r} i want h l =
+pub sink-again : {lw : ℕ → ℕ → ℕ} {t b r₀ : ℕ} {c₀ c d : Cursor} {r : ℕ} → Sinking lw t b r₀ c₀ c r → isReading (kind t c) ≡ true → r < b
+    → Lowers lw t (lowLayer t c - 1) c d → Sinking lw t b r₀ c₀ d (r + 1)
+sink-again {lw} {t} {b} {r₀} {c₀} {c} {d} {r} i want h l =
     let e : b - r ≡ suc (b - (r + 1)) = omega arith in
     let s : suc r ≡ r + 1 = omega arith in
     record {
-      left = sym (ap (λ (n : ℕ). sunk lw n r c) e ∙ sunk-again lw c (b - (r + 1)) r want (l .is) ∙ ap (λ (n : ℕ). sunk lw (b - (r + 1)) n d) s) ∙ i .left;
+      left = sym (ap (λ (n : ℕ). sunk lw t n r c) e ∙ sunk-again lw t c (b - (r + 1)) r want (l .is) ∙ ap (λ (n : ℕ). sunk lw t (b - (r + 1)) n d) s) ∙ i .left;
       going = λ f g. let w = i .going f g in run-again w want (λ (q : r ≡ b). absurd (omega arith)) (l .down (w .fine));
     }
 
-pub sink-rests : {lw : ℕ → ℕ → ℕ} {b r₀ : ℕ} {c₀ c : Cursor} {r : ℕ} → Sinking lw b r₀ c₀ c r → isReading (kind 3 c) ≡ false
-    → Sinks lw b r₀ c₀ (record { cursor = c; reads = r })
-sink-rests {lw} {b} {c = c} {r = r} i e = record {
-  is = sym (sunk-rests lw c (b - r) r e) ∙ i .left;
+pub sink-rests : {lw : ℕ → ℕ → ℕ} {t b r₀ : ℕ} {c₀ c : Cursor} {r : ℕ} → Sinking lw t b r₀ c₀ c r → isReading (kind t c) ≡ false
+    → Sinks lw t b r₀ c₀ (record { cursor = c; reads = r })
+sink-rests {lw} {t} {b} {c = c} {r = r} i e = record {
+  is = sym (sunk-rests lw t c (b - r) r e) ∙ i .left;
   sank = λ f g. record { going = i .going f g; stopped = λ w. absurd (true≢false (sym w ∙ e)) };
 }
 
 -- a member is at hand: nothing is read
-pub sink-none : (lw : ℕ → ℕ → ℕ) (b r : ℕ) (c : Cursor) → getD (c .masks) 0 0 ≢ 0 → Sinks lw b r c (record { cursor = c; reads = r })
-sink-none lw b r c some = sink-rests (sink-start lw b r c) (ap isReading (kind-gives 3 c (low-at (sym (low-stop (c .masks) 0 3 some)))))
+pub sink-none : (lw : ℕ → ℕ → ℕ) (t b r : ℕ) (c : Cursor) → getD (c .masks) 0 0 ≢ 0 → Sinks lw t b r c (record { cursor = c; reads = r })
+sink-none lw t b r c some = sink-rests (sink-start lw t b r c) (ap isReading (kind-gives t c (low-at (sym (low-stop (c .masks) 0 t some)))))
 
-pub sink-spent : {lw : ℕ → ℕ → ℕ} {b r₀ : ℕ} {c₀ c : Cursor} {r : ℕ} → Sinking lw b r₀ c₀ c r → b ≤ r → Sinks lw b r₀ c₀ (record { cursor = c; reads = r })
-sink-spent {lw} {b} {c = c} {r = r} i h = record {
-  is = sym (sunk-spent lw c (b - r) r (omega arith)) ∙ i .left;
+pub sink-spent : {lw : ℕ → ℕ → ℕ} {t b r₀ : ℕ} {c₀ c : Cursor} {r : ℕ} → Sinking lw t b r₀ c₀ c r → b ≤ r → Sinks lw t b r₀ c₀ (record { cursor = c; reads = r })
+sink-spent {lw} {t} {b} {c = c} {r = r} i h = record {
+  is = sym (sunk-spent lw t c (b - r) r (omega arith)) ∙ i .left;
   sank = λ f g. let w = i .going f g in record { going = w; stopped = λ x. omega (arith, w .spent) };
 }
 
@@ -179,31 +180,31 @@ module _ (lw : ℕ → ℕ → ℕ) (t r : ℕ) (c : Cursor) where
       ∙ ap (more r) (sym (next-paused lw t c (lowLayer t c - 1) (omega (arith, inner)) (subst (Low (c .masks) 0 (suc t)) l (low-found (c .masks) 0 (suc t)))))
 
 -- what is answered there, for every cursor
-module _ (r : ℕ) (c : Cursor) where
-  pub finish-member : getD (c .masks) 0 0 ≢ 0 → (0 < getD (c .masks) 0 0 → firstBit c 0 < 64) → {d : Cursor} {v : ℕ} → d ≡ handed c → v ≡ placeAt 3 c 0 % 4294967296
-      → Finishes r c (record { cursor = d; reads = r; answer = Member v })
-  finish-member some b {d} {v} d-is v-is = record {
+module _ (t r : ℕ) (c : Cursor) where
+  pub finish-member : t ≤ topMost → getD (c .masks) 0 0 ≢ 0 → (0 < getD (c .masks) 0 0 → firstBit c 0 < 64) → {d : Cursor} {v : ℕ} → d ≡ handed c → v ≡ placeAt t c 0 % 4294967296
+      → Finishes t r c (record { cursor = d; reads = r; answer = Member v })
+  finish-member few some b {d} {v} d-is v-is = record {
     is = ap₂ (λ (x : Cursor) (y : ℕ). record { cursor = x; reads = r; answer = Member y }) d-is v-is
-        ∙ ap (finishedBy r c) (sym (kind-gives 3 c (low-at (sym (low-stop (c .masks) 0 3 some)))));
-    same = λ f. still-member (λ (k i : ℕ). 0) 3 r c some d-is (v-is ∙ id-cut c f some b);
+        ∙ ap (finishedBy t r c) (sym (kind-gives t c (low-at (sym (low-stop (c .masks) 0 t some)))));
+    same = λ f. still-member (λ (k i : ℕ). 0) t r c some d-is (v-is ∙ id-cut t c few f some b);
   }
 
-  pub finish-paused : isReading (kind 3 c) ≡ true → Finishes r c (record { cursor = c; reads = r; answer = Paused })
-  finish-paused want = record { is = go (kind 3 c) want; same = λ f. still-paused (λ (k i : ℕ). 0) 3 r c want }
+  pub finish-paused : isReading (kind t c) ≡ true → Finishes t r c (record { cursor = c; reads = r; answer = Paused })
+  finish-paused want = record { is = go (kind t c) want; same = λ f. still-paused (λ (k i : ℕ). 0) t r c want }
     where
-      go : (k : Kind) → isReading k ≡ true → record { cursor = c; reads = r; answer = Paused } ≡ finishedBy r c k
+      go : (k : Kind) → isReading k ≡ true → record { cursor = c; reads = r; answer = Paused } ≡ finishedBy t r c k
       go gives e = absurd (true≢false (sym e))
       go (reads j) e = refl
       go done e = absurd (true≢false (sym e))
 
-  pub finish-end : isReading (kind 3 c) ≡ false → getD (c .masks) 0 0 ≡ 0 → Finishes r c (record { cursor = c; reads = r; answer = End })
+  pub finish-end : isReading (kind t c) ≡ false → getD (c .masks) 0 0 ≡ 0 → Finishes t r c (record { cursor = c; reads = r; answer = End })
   finish-end e z = record {
-    is = ap (finishedBy r c) (sym (kind-done 3 c (low-at (sym (resting-low 3 c e z)))));
-    same = λ f. still-end (λ (k i : ℕ). 0) 3 r c e z;
+    is = ap (finishedBy t r c) (sym (kind-done t c (low-at (sym (resting-low t c e z)))));
+    same = λ f. still-end (λ (k i : ℕ). 0) t r c e z;
   }
 
 -- so a walk that sinks and finishes is next
-pub sink-finish : {lw : ℕ → ℕ → ℕ} {b : ℕ} {c : Cursor} {d : Sunk} {a : Step} → Fine 3 (c .prefix) → Sinks lw b 0 c d → Finishes (d .reads) (d .cursor) a → a ≡ next lw 3 b c
+pub sink-finish : {lw : ℕ → ℕ → ℕ} {t b : ℕ} {c : Cursor} {d : Sunk} {a : Step} → Fine t (c .prefix) → Sinks lw t b 0 c d → Finishes t (d .reads) (d .cursor) a → a ≡ next lw t b c
 sink-finish f s e = let k = s .sank f (omega arith) in e .same (k .going .fine) ∙ run-done (λ (k i : ℕ). 0) (k .going) (k .stopped)
 
 -- ---- layer words that agree below the top make the same walk

@@ -1,4 +1,4 @@
--- What the private steps ask and leave.
+-- What the private steps ask and leave; t is the number of the top layer.
 use mathlib.Core.Bool.{Bool, true, false, cond}
 use mathlib.Core.List.{List, []}
 use mathlib.Core.Path.{_≡_}
@@ -36,41 +36,41 @@ pub record Going (lw : ℕ → ℕ → ℕ) (t b r₀ : ℕ) (c₀ c : Cursor) (
   pub same : next lw t (b - r₀) c₀ ≡ more (r - r₀) (next lw t (b - r) c)
 
 -- until no word is wanted or the budget is spent
-pub record Sank (lw : ℕ → ℕ → ℕ) (b r₀ : ℕ) (c : Cursor) (d : Sunk) : Type 0 where
-  pub going : Going lw 3 b r₀ c (d .cursor) (d .reads)
-  pub stopped : isReading (kind 3 (d .cursor)) ≡ true → d .reads ≡ b
+pub record Sank (lw : ℕ → ℕ → ℕ) (t b r₀ : ℕ) (c : Cursor) (d : Sunk) : Type 0 where
+  pub going : Going lw t b r₀ c (d .cursor) (d .reads)
+  pub stopped : isReading (kind t (d .cursor)) ≡ true → d .reads ≡ b
 
 -- ---- the same for every cursor, its prefixes fine or not
 
 -- the lowest bit of layer j + 1 is taken, and the word below it read
-abbrev pub lowered : (ℕ → ℕ → ℕ) → ℕ → Cursor → Cursor
-lowered lw j c = handled j (lw j (placeAt 3 c (suc j))) c
+abbrev pub lowered : (ℕ → ℕ → ℕ) → ℕ → ℕ → Cursor → Cursor
+lowered lw t j c = handled t j (lw j (placeAt t c (suc j))) c
 
 -- with what it is where they are fine
-pub record Lowers (lw : ℕ → ℕ → ℕ) (j : ℕ) (c d : Cursor) : Type 0 where
-  pub is : d ≡ lowered lw j c
-  pub down : Fine 3 (c .prefix) → Descended lw 3 j c d
+pub record Lowers (lw : ℕ → ℕ → ℕ) (t j : ℕ) (c d : Cursor) : Type 0 where
+  pub is : d ≡ lowered lw t j c
+  pub down : Fine t (c .prefix) → Descended lw t j c d
 
 -- after r reads: so many words more are read, or as many as are wanted
-unfoldable pub sunk : (ℕ → ℕ → ℕ) → ℕ → ℕ → Cursor → Sunk
-sunk lw zero r c = record { cursor = c; reads = r }
-sunk lw (suc b) r c =
-    let d = sunk lw b (suc r) (lowered lw (lowLayer 3 c - 1) c) in
-    cond (isReading (kind 3 c)) d (record { cursor = c; reads = r })
+unfoldable pub sunk : (ℕ → ℕ → ℕ) → ℕ → ℕ → ℕ → Cursor → Sunk
+sunk lw t zero r c = record { cursor = c; reads = r }
+sunk lw t (suc b) r c =
+    let d = sunk lw t b (suc r) (lowered lw t (lowLayer t c - 1) c) in
+    cond (isReading (kind t c)) d (record { cursor = c; reads = r })
 
-pub record Sinks (lw : ℕ → ℕ → ℕ) (b r₀ : ℕ) (c : Cursor) (d : Sunk) : Type 0 where
-  pub is : d ≡ sunk lw (b - r₀) r₀ c
-  pub sank : Fine 3 (c .prefix) → r₀ ≤ b → Sank lw b r₀ c d
+pub record Sinks (lw : ℕ → ℕ → ℕ) (t b r₀ : ℕ) (c : Cursor) (d : Sunk) : Type 0 where
+  pub is : d ≡ sunk lw t (b - r₀) r₀ c
+  pub sank : Fine t (c .prefix) → r₀ ≤ b → Sank lw t b r₀ c d
 
 -- what is answered after r reads where no word is read any more
-abbrev pub finishedBy : ℕ → Cursor → Kind → Step
-finishedBy r c gives = record { cursor = handed c; reads = r; answer = Member (placeAt 3 c 0 % 4294967296) }
-finishedBy r c (reads j) = record { cursor = c; reads = r; answer = Paused }
-finishedBy r c done = record { cursor = c; reads = r; answer = End }
+abbrev pub finishedBy : ℕ → ℕ → Cursor → Kind → Step
+finishedBy t r c gives = record { cursor = handed c; reads = r; answer = Member (placeAt t c 0 % 4294967296) }
+finishedBy t r c (reads j) = record { cursor = c; reads = r; answer = Paused }
+finishedBy t r c done = record { cursor = c; reads = r; answer = End }
 
-abbrev pub finished : ℕ → Cursor → Step
-finished r c = finishedBy r c (kind 3 c)
+abbrev pub finished : ℕ → ℕ → Cursor → Step
+finished t r c = finishedBy t r c (kind t c)
 
-pub record Finishes (r : ℕ) (c : Cursor) (a : Step) : Type 0 where
-  pub is : a ≡ finished r c
-  pub same : Fine 3 (c .prefix) → a ≡ more r (next (λ (k i : ℕ). 0) 3 0 c)
+pub record Finishes (t r : ℕ) (c : Cursor) (a : Step) : Type 0 where
+  pub is : a ≡ finished t r c
+  pub same : Fine t (c .prefix) → a ≡ more r (next (λ (k i : ℕ). 0) t 0 c)

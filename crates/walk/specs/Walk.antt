@@ -5,7 +5,7 @@ use mathlib.Core.List.{List}
 use Prim.Native.Nat.{ℕ, zero, suc, _+_, _-_, _*_, _%_, _^_}
 use lib.Dec.{ltb}
 use lib.ListN.{getD, set, replicate}
-use Rattle.walk_masks.specs.Masks.{lowest, bare}
+use Rattle.walk_masks.specs.Masks.{lowestBit, bare}
 unfoldable pub use Rattle.walk_masks.specs.Masks.{lowFrom, prefixAt}
 use Rattle.walk.specs.declared.Cursor.{Cursor}
 use Rattle.walk.specs.declared.Next.the-variants.{Member, Paused, End}
@@ -34,7 +34,7 @@ kind t c = kindOf t (lowLayer t c)
 
 -- layer k "gives its lowest bit"
 abbrev pub firstBit : Cursor → ℕ → ℕ
-firstBit c k = lowest (c .masks) k
+firstBit c k = lowestBit (c .masks) k
 
 -- the place of that bit in its layer; a prefix is a multiple of 64, so the sum is the crate's bitwise or
 unfoldable pub placeAt : ℕ → Cursor → ℕ → ℕ
@@ -56,8 +56,8 @@ unfoldable pub taken : Cursor → ℕ → ℕ → ℕ → Cursor
 taken c j q w = record { masks = set (less c (suc j)) j w; prefix = set (c .prefix) j (q * 64) }
 
 -- the same with the place counted modulo 2 ^ 26, as many as prefixes of 32 bits have: so it is said of every cursor
-abbrev pub handled : ℕ → ℕ → Cursor → Cursor
-handled j w c = taken c j (placeAt 3 c (suc j) % 67108864) w
+abbrev pub handled : ℕ → ℕ → ℕ → Cursor → Cursor
+handled t j w c = taken c j (placeAt t c (suc j) % 67108864) w
 
 -- ---- answers
 

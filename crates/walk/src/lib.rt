@@ -2,9 +2,10 @@
 ghost use mathlib.Core.Bool.{true};
 ghost use mathlib.Core.List.{[], _∷_};
 ghost use mathlib.Core.Path.{_≡_};
-ghost use Prim.Native.Nat.{ℕ, _+_, _-_, _%_, _<_};
+ghost use Prim.Native.Nat.{ℕ, suc, _+_, _-_, _%_, _<_};
 ghost use lib.ListN.{getD};
 ghost use Rattle.util.specs.Outcome.{Settled};
+ghost use Rattle.store.specs.Layout.{top, topMost};
 ghost use Rattle.walk.specs.Calls.{stepPaper, startOf, nextOf, fits, Fine};
 ghost use Rattle.walk.specs.Steps.{refusalOf, parts, isReading, Lowers, Sinks, Finishes};
 ghost use Rattle.walk.specs.Walk.{lowLayer, kind, firstBit, placeAt, handed, handled, startAt, next};
@@ -12,8 +13,8 @@ pub use walk_masks::are_prefixes;
 
 // Layer k's mask and prefix stand at place k; the top layer has no prefix.
 pub struct Cursor {
-    pub masks: [u64; 4],
-    pub prefix: [u32; 3],
+    pub masks: [u64; store::LAYERS],
+    pub prefix: [u32; store::TOP],
 }
 
 // What a call of the walk answers.
@@ -38,19 +39,21 @@ pub struct Sunk {
 }
 
 // The cursor above everything that stands below a top word.
-fn above(top: u64) -> Cursor
-    ensures { λ r. ⌜ r ≡ startAt 3 top ⌝ }
+pub fn above(top: u64) -> Cursor
+    ensures { λ r. ⌜ r ≡ startAt topMost top ⌝ }
 {
+    let mut masks = [0; store::LAYERS];
+    masks[store::TOP] = top;
     Cursor {
-        masks: [0, 0, 0, top],
-        prefix: [0; 3],
+        masks,
+        prefix: [0; store::TOP],
     }
 }
 
 impl Cursor {
-    // Where the lowest bit of layer k's mask stands in its layer; the top layer has no prefix. Layers count modulo 4.
+    // Where the lowest bit of layer k's mask stands in its layer; the top layer has no prefix. Layers count modulo their number.
     pub fn place(self, k: usize) -> usize
-        ensures { λ r. ⌜ (r ≡ placeAt 3 self (k % 4)) × (0 < getD (self .masks) (k % 4) 0 → firstBit self (k % 4) < 64) ⌝ }
+        ensures { λ r. ⌜ (let j = k % suc topMost in (r ≡ placeAt topMost self j) × (0 < getD (self .masks) j 0 → firstBit self j < 64)) ⌝ }
     {
         let masks = self.masks;
         let prefix = self.prefix;
@@ -69,13 +72,13 @@ impl Cursor {
         }
     }
 
-    // The lowest bit of the layer above layer j is taken, and the word below it, of layer j, is in hand. Layers count modulo 3.
+    // The lowest bit of the layer above layer j is taken, and the word below it, of layer j, is in hand. Layers count modulo the top one.
     pub fn handle_level(self, j: usize, word: u64) -> Cursor
-        ensures { λ r. ⌜ r ≡ handled (j % 3) word self ⌝ }
+        ensures { λ r. ⌜ r ≡ handled topMost (j % topMost) word self ⌝ }
     {
         let masks = self.masks;
         let prefix = self.prefix;
-        let q = walk_masks::place(masks, prefix, j % 3 + 1);
+        let q = walk_masks::place(masks, prefix, j % store::TOP + 1);
         Cursor {
             masks: walk_masks::taken(masks, j, word),
             prefix: walk_masks::under(prefix, j, q),
@@ -84,8 +87,8 @@ impl Cursor {
 
     // The word below the lowest bit of the layer above layer j is read.
     fn read(self, layer: &[u64], j: usize) -> Cursor
-        requires { ⌜ (j < 3) × (0 < getD (self .masks) (j + 1) 0) ⌝ }
-        ensures { λ r. ⌜ Lowers (λ (k i : ℕ). getD (now (layer .entry)) i 0) j self r ⌝ }
+        requires { ⌜ (j < topMost) × (0 < getD (self .masks) (j + 1) 0) ⌝ }
+        ensures { λ r. ⌜ Lowers (λ (k i : ℕ). getD (now (layer .entry)) i 0) topMost j self r ⌝ }
     {
         let q = self.place(j + 1);
         self.handle_level(j, store::get(layer, q))
@@ -93,7 +96,7 @@ impl Cursor {
 
     // Whether a word has to be read before the next member.
     pub fn wants(self) -> bool
-        ensures { λ r. ⌜ r ≡ isReading (kind 3 self) ⌝ }
+        ensures { λ r. ⌜ r ≡ isReading (kind topMost self) ⌝ }
     {
         let masks = self.masks;
         walk_masks::wants(masks)
@@ -101,8 +104,9 @@ impl Cursor {
 
     // One word is read. Each layer has a way of its own, so that the masks stay in registers.
     fn down(self, l2: &[u64], l1: &[u64], l0: &[u64]) -> Cursor
-        requires { ⌜ isReading (kind 3 self) ≡ true ⌝ }
-        ensures { λ r. ⌜ Lowers (parts (now (l0 .entry) ∷ now (l1 .entry) ∷ now (l2 .entry) ∷ [])) (lowLayer 3 self - 1) self r ⌝ }
+        requires { ⌜ isReading (kind topMost self) ≡ true ⌝ }
+        ensures { λ r. ⌜ (let ls = now (l0 .entry) ∷ now (l1 .entry) ∷ now (l2 .entry) ∷ [] in
+            Lowers (parts ls) topMost (lowLayer topMost self - 1) self r) ⌝ }
     {
         let masks = self.masks;
         if masks[1] != 0 {
@@ -116,7 +120,7 @@ impl Cursor {
 
     // After so many reads, words of three layers are read until none is wanted or the budget is spent.
     pub fn sink(self, l2: &[u64], l1: &[u64], l0: &[u64], spent: u64, budget: u64) -> Sunk
-        ensures { λ r. ⌜ Sinks (parts (now (l0 .entry) ∷ now (l1 .entry) ∷ now (l2 .entry) ∷ [])) budget spent self r ⌝ }
+        ensures { λ r. ⌜ Sinks (parts (now (l0 .entry) ∷ now (l1 .entry) ∷ now (l2 .entry) ∷ [])) topMost budget spent self r ⌝ }
     {
         let mut c = self;
         let mut reads = spent;
@@ -143,7 +147,7 @@ impl Cursor {
 
     // The refusal of a walk on a store of n ids, none being no store; or 0.
     pub fn refusal(self, n: usize) -> u32
-        ensures { λ r. ⌜ r ≡ refusalOf n (fits 3 self) ⌝ }
+        ensures { λ r. ⌜ r ≡ refusalOf n (fits (top n) self) ⌝ }
     {
         let prefix = self.prefix;
         walk_masks::refusal(n, prefix)
@@ -151,7 +155,7 @@ impl Cursor {
 
     // What next answers where no word is read any more, after so many reads. An id has 32 bits.
     pub fn finish(self, reads: u64) -> Step
-        ensures { λ r. ⌜ Finishes reads self r ⌝ }
+        ensures { λ r. ⌜ Finishes topMost reads self r ⌝ }
     {
         let masks = self.masks;
         if masks[0] != 0 {
@@ -167,8 +171,8 @@ impl Cursor {
 
     // Next over three layers, where nothing is refused.
     fn run(self, l2: &[u64], l1: &[u64], l0: &[u64], budget: u64) -> Step
-        requires { ⌜ Fine 3 (self .prefix) ⌝ }
-        ensures { λ r. ⌜ r ≡ next (parts (now (l0 .entry) ∷ now (l1 .entry) ∷ now (l2 .entry) ∷ [])) 3 budget self ⌝ }
+        requires { ⌜ Fine topMost (self .prefix) ⌝ }
+        ensures { λ r. ⌜ r ≡ next (parts (now (l0 .entry) ∷ now (l1 .entry) ∷ now (l2 .entry) ∷ [])) topMost budget self ⌝ }
     {
         let d = self.sink(l2, l1, l0, 0, budget);
         let c = d.cursor;
@@ -182,7 +186,7 @@ impl Cursor {
         if store::capacity(store) == 0 {
             return self.step(0, Next::Refused(2));
         }
-        let c = above(store::get(store, 1));
+        let c = above(store::top_word(store));
         c.step(1, Next::Paused)
     }
 

@@ -7,7 +7,7 @@ use native.Mathlib.Omega.{arith}
 use lib.ListN.{length, take, drop, length-append, length-drop}
 use lib.Seq.{take-append-seam}
 use Rattle.util.specs.Outcome.{Settled, settles}
-use Rattle.store.specs.Layout.{top, cap, isStore}
+use Rattle.store.specs.Layout.{top, cap, isStore, topMost}
 use Rattle.store.specs.Word.{word, Words64}
 use Rattle.store.proofs.Geometry.{store-is}
 use Rattle.store.proofs.Words.{word-lt}
@@ -70,7 +70,7 @@ module _ (t : List ℕ) (is : isStore t ≡ true) (small : Words64 t) where
   pub at-start : {ids : List ℕ} (c : Cursor) → length ids ≡ 64 → c ≡ startedOf t → At t ids c × (ahead t c ≡ walked t)
   at-start {ids} c l e =
       let w = lw k 0 in
-      let q : c ≡ startAt k w = e ∙ ap (λ (x : Step). x .cursor) (start-is (store-is is) (startAt 3 0)) in
+      let q : c ≡ startAt k w = e ∙ ap (λ (x : Step). x .cursor) (start-is (store-is is) (startAt topMost 0)) in
       subst (λ (x : Cursor). At t ids x × (ahead t x ≡ walked t)) (sym q) (
         record { wf = start-wf k w (word-lt (cap t) t small k 0); fine = start-fine k w; long = l },
         start-rest lw k,

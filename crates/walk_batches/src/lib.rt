@@ -10,8 +10,8 @@ pub fn started(store: &[u64]) -> Cursor
     ensures { λ r. ⌜ r ≡ startedOf (now (store .entry)) ⌝ }
 {
     let none = Cursor {
-        masks: [0; 4],
-        prefix: [0; 3],
+        masks: [0; store::LAYERS],
+        prefix: [0; store::TOP],
     };
     let s = none.start(store);
     s.cursor

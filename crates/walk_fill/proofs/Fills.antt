@@ -1,15 +1,16 @@
 -- What a fill does, by the lowest layer with a mask; and the turns and ends of its loop.
+use Rattle.store.proofs.TopLayer.{top-is}
 use mathlib.Core.Bool.{Bool, false, true, true≢false}
 use mathlib.Core.List.{List, [], _∷_, _++_, append-assoc, append-nil}
 use mathlib.Core.Logic.{_≢_, ⊎-elim}
 use mathlib.Core.Path.{_≡_, refl, sym, ap, ap₂, _∙_, subst}
-use Prim.Native.Nat.{ℕ, zero, suc, _+_, _-_, _≤_, _<_}
+use Prim.Native.Nat.{ℕ, zero, suc, _+_, _-_, _≤_, _<_, _%_, _^_}
 use native.Mathlib.Nat.{add-assoc, add-zero, zero-add}
 use native.Mathlib.Omega.{arith}
 use lib.ListN.{length, getD, set, drop, length-append, length-set}
 use lib.Seq.{drop-cons, set-at}
 use Rattle.util.specs.Outcome.{Outcome, Settled, settled, settles}
-use Rattle.store.specs.Layout.{top, isStore, capacityOf, StoreOf}
+use Rattle.store.specs.Layout.{top, isStore, capacityOf, StoreOf, topMost}
 use Rattle.store.specs.Word.{word}
 use Rattle.store.proofs.Geometry.{is-store}
 use Rattle.set_layers.specs.Calls.{layerPart}
@@ -22,10 +23,10 @@ use Rattle.walk.specs.declared.Next.{Next}
 use Rattle.walk.specs.declared.Next.the-variants.{Member, Paused, End, Refused}
 use Rattle.walk.specs.declared.Step.{Step}
 use Rattle.walk.proofs.Answers.{was-refused, lent-words}
-use Rattle.walk.proofs.Cursors.{Low, low-found, low-stop, low-at, reading-low, resting-low}
+use Rattle.walk.proofs.Cursors.{Low, low-found, low-stop, low-at, reading-low, resting-low, id-cut}
 use Rattle.walk.proofs.Turns.{next-gives, next-done, next-paused, next-same}
 use Rattle.walk_fill.specs.Fill.{Filled, after, stopped, goOn, fillFrom, restOf, batch, batchPaper, filled, fillIn}
-use Rattle.walk_fill.specs.Steps.{Filling}
+use Rattle.walk_fill.specs.Steps.{Filling, HandsOut}
 use Rattle.walk_fill.specs.declared.Batch.{Batch}
 use Rattle.walk_fill.specs.declared.Stop.{Stop}
 use Rattle.walk_fill.specs.declared.Stop.the-variants.{Full, Paused as StopPaused, End as StopEnd, Refused as StopRefused}
@@ -138,7 +139,7 @@ module _ {lw : ℕ → ℕ → ℕ} {t b : ℕ} {c₀ : Cursor} {out₀ : List �
             (ends StopEnd (ap (λ (n : ℕ). fillFrom lw t n (b - r) c) room ∙ fill-done lw t c (length out₀ - suc k) (low-at (sym (resting-low t c e z))) (b - r)))
 
     -- a member written
-    pub fill-again : getD (c .masks) 0 0 ≢ 0 → (d : Cursor) (v : ℕ) → d ≡ handed c → v ≡ placeAt t c 0 → Filling lw t b c₀ out₀ d r (k + 1) (set out k v)
+    fill-again : getD (c .masks) 0 0 ≢ 0 → (d : Cursor) (v : ℕ) → d ≡ handed c → v ≡ placeAt t c 0 → Filling lw t b c₀ out₀ d r (k + 1) (set out k v)
     unfolding handed
     fill-again some d v d-is v-is =
         let low = low-at (sym (low-stop (c .masks) 0 t some)) in
@@ -162,6 +163,11 @@ module _ {lw : ℕ → ℕ → ℕ} {t b : ℕ} {c₀ : Cursor} {out₀ : List �
               ∙ ap₂ (λ (x : ℕ) (n : ℕ). after (g .ids ++ (x ∷ [])) n (fillFrom lw t (length out₀ - suc k) (b - r) (handed c))) (sym v-is) (add-zero r)
               ∙ ap₂ (λ (n : ℕ) (x : Cursor). after (g .ids ++ (v ∷ [])) r (fillFrom lw t n (b - r) x)) m (sym d-is);
         }
+
+    pub fill-handed : t ≤ topMost → getD (c .masks) 0 0 ≢ 0 → {d : Cursor} {out′ : List ℕ} → HandsOut t c k out d out′ → Filling lw t b c₀ out₀ d r (k + 1) out′
+    fill-handed few some {d} a =
+        subst (Filling lw t b c₀ out₀ d r (k + 1)) (sym (a .places))
+        (fill-again some d (placeAt t c 0 % 2 ^ 32) (a .cursor) (id-cut t c few (g .fine) some (a .bit)))
 
     -- words read
     pub fill-down : {d : Cursor} {n : ℕ} → Going lw t b r c d n → Filling lw t b c₀ out₀ d n k out
@@ -219,21 +225,21 @@ module _ {N : ℕ} {s : List ℕ} (z : StoreOf N s) (c : Cursor) where
   fill-runs b m h = sym (rw (is-store z, z .names, h))
 
   -- over the layers that are lent on
-  pub fill-lent : {l2 l1 l0 : List ℕ} → l2 ≡ layerPart s 2 → l1 ≡ layerPart s 1 → l0 ≡ layerPart s 0 → fits 3 c ≡ true → (b m : ℕ)
-      → fillFrom (parts (l0 ∷ l1 ∷ l2 ∷ [])) 3 m b c ≡ fillIn s c b m
-  unfolding top
-  fill-lent {l2} {l1} {l0} e2 e1 e0 h b m = fill-same (parts (l0 ∷ l1 ∷ l2 ∷ [])) (word N s) 3 (lent-words z e2 e1 e0) m b c ∙ fill-runs b m h
+  pub fill-lent : {l2 l1 l0 : List ℕ} → l2 ≡ layerPart s 2 → l1 ≡ layerPart s 1 → l0 ≡ layerPart s 0 → fits (top N) c ≡ true → (b m : ℕ)
+      → fillFrom (parts (l0 ∷ l1 ∷ l2 ∷ [])) topMost m b c ≡ fillIn s c b m
+  fill-lent {l2} {l1} {l0} e2 e1 e0 h b m =
+      fill-same (parts (l0 ∷ l1 ∷ l2 ∷ [])) (word N s) topMost (lent-words z e2 e1 e0) m b c
+      ∙ ap (λ (t : ℕ). fillFrom (word N s) t m b c) (sym (top-is N)) ∙ fill-runs b m h
 
 -- a refusal, by the number that was found
-pub fill-refused : (s : List ℕ) {N n : ℕ} (c : Cursor) (b : ℕ) (out : List ℕ) {r : Batch} → N ≡ capacityOf s → n ≡ refusalOf N (fits 3 c) → n ≢ 0
+pub fill-refused : (s : List ℕ) {N n : ℕ} (c : Cursor) (b : ℕ) (out : List ℕ) {r : Batch} → N ≡ capacityOf s → n ≡ refusalOf N (fits (top N) c) → n ≢ 0
     → r ≡ record { cursor = c; reads = 0; count = 0; stop = StopRefused n } → Settled batchPaper (filled (fillIn s c b (length out)) out) r out
-unfolding top
-fill-refused s {n = n} c b out e f h is =
+fill-refused s {N} {n} c b out e f h is =
     let m = length out in
     let w : stopped (StopRefused n) 0 c ≡ fillIn s c b m =
     ⊎-elim
     (λ (p : (isStore s ≡ false) × (n ≡ 2)). ap (λ (x : ℕ). stopped (StopRefused x) 0 c) (p .1) ∙ fill-2 s c b m (p .0))
-    (λ (p : StoreOf _ s × (fits 3 c ≡ false) × (n ≡ 7)). ap (λ (x : ℕ). stopped (StopRefused x) 0 c) (p .2) ∙ fill-7 (p .0) c b m (p .1))
+    (λ (p : StoreOf _ s × (fits (top N) c ≡ false) × (n ≡ 7)). ap (λ (x : ℕ). stopped (StopRefused x) 0 c) (p .2) ∙ fill-7 (p .0) c b m (p .1))
     (was-refused s c e f h) in
     settled (ap (λ (x : Filled). filled x out) (sym w) ∙ ap (λ (x : Batch). record { numbers = batchPaper .numbers x; lent = out }) (sym is))
 

@@ -3,10 +3,12 @@ ghost use mathlib.Core.List.{[], _∷_};
 ghost use mathlib.Core.Path.{_≡_};
 ghost use lib.ListN.{length};
 ghost use Rattle.util.specs.Outcome.{Settled};
+ghost use Rattle.store.specs.Layout.{topMost};
 ghost use Rattle.walk.specs.Calls.{Fine};
 ghost use Rattle.walk.specs.Steps.{parts};
 ghost use Rattle.walk.specs.Walk.{kind};
 ghost use Rattle.walk_fill.specs.Fill.{fillFrom, batchPaper, filled, fillOf, restOf};
+ghost use Rattle.walk_fill.specs.Steps.{HandsOut};
 use walk::Cursor;
 
 // Why a fill stopped: the places were full, or as next.
@@ -39,7 +41,7 @@ pub fn made(c: Cursor, reads: u64, count: usize, stop: Stop) -> Batch
 
 // Why no member is at hand.
 pub fn rest(c: Cursor, reads: u64, count: usize) -> Batch
-    ensures { λ r. ⌜ r ≡ record { cursor = c; reads = reads; count = count; stop = restOf (kind 3 c) } ⌝ }
+    ensures { λ r. ⌜ r ≡ record { cursor = c; reads = reads; count = count; stop = restOf (kind topMost c) } ⌝ }
 {
     if c.wants() {
         return made(c, reads, count, Stop::Paused);
@@ -47,10 +49,25 @@ pub fn rest(c: Cursor, reads: u64, count: usize) -> Batch
     made(c, reads, count, Stop::End)
 }
 
+// The member at hand is written to a place of `out`, where there is one; answers the cursor after it. An id has 32 bits.
+pub fn hand_out(c: Cursor, out: &mut [u32], at: usize) -> Cursor
+    ensures { λ r. ⌜ HandsOut topMost c at (now (out .entry)) r (now (out .exit)) ⌝ }
+{
+    let id = (c.place(0) % 4294967296) as u32;
+    let d = c.hand();
+    if at < out.len() {
+        out[at] = id;
+        return d;
+    }
+    d
+}
+
 // Fill over three layers, where nothing is refused.
 fn fill_in(from: Cursor, l2: &[u64], l1: &[u64], l0: &[u64], budget: u64, out: &mut [u32]) -> Batch
-    requires { ⌜ Fine 3 (from .prefix) ⌝ }
-    ensures { λ r. ⌜ Settled batchPaper (filled (fillFrom (parts (now (l0 .entry) ∷ now (l1 .entry) ∷ now (l2 .entry) ∷ [])) 3 (length (now (out .entry))) budget from) (now (out .entry))) r (now (out .exit)) ⌝ }
+    requires { ⌜ Fine topMost (from .prefix) ⌝ }
+    ensures { λ r. ⌜ (let ls = now (l0 .entry) ∷ now (l1 .entry) ∷ now (l2 .entry) ∷ [] in
+        let o = now (out .entry) in
+        Settled batchPaper (filled (fillFrom (parts ls) topMost (length o) budget from) o) r (now (out .exit))) ⌝ }
 {
     let mut c = from;
     let mut spent = 0u64;
@@ -62,8 +79,7 @@ fn fill_in(from: Cursor, l2: &[u64], l1: &[u64], l0: &[u64], budget: u64, out: &
         if c.masks[0] == 0 {
             return rest(c, spent, count);
         }
-        out[count] = c.place(0) as u32;
-        c = c.hand();
+        c = hand_out(c, out, count);
         count += 1;
     }
     made(c, spent, count, Stop::Full)

@@ -1,6 +1,6 @@
 -- Calls that are the walk over layer words, one after another from the start: one store and a formula are instances.
 use mathlib.Core.Bool.{true}
-use mathlib.Core.List.{List, [], _∷_}
+use mathlib.Core.List.{List, [], _∷_, map}
 use mathlib.Core.Path.{_≡_, refl, sym, ap, _∙_, subst}
 use Prim.Native.Nat.{ℕ, _+_, _≤_}
 use lib.ListN.{length}
@@ -11,13 +11,14 @@ use Rattle.walk.specs.declared.Next.{Next}
 use Rattle.walk.specs.declared.Next.the-variants.{Member, Paused, End, Refused}
 use Rattle.walk.specs.declared.Step.{Step}
 use Rattle.walk_fill.specs.Fill.{Filled, fillFrom}
-use Rattle.walk_laws.specs.Calls.{Ask, budgetOf, roomOf, alone, asked, Keeps, Some, Run, onward, runBy, AllStopped, fillAt, Nexts, Fills}
+use Rattle.walk_laws.specs.Calls.{Ask, budgetOf, roomOf, alone, askedOf, Keeps, Some, Run, onward, runBy, AllStopped, fillAt, Nexts, Fills}
 use Rattle.walk_laws.specs.Calls.Ask.{one, many}
 use Rattle.walk_laws.specs.Under.{allIds, allReads}
-use Rattle.walk_laws.specs.Walks.{Bounded, Full, spacedBy, Spaced}
+use Rattle.walk_laws.specs.Walks.{Bounded, Full, spacedBy, Spaced, SpacedAs}
 use Rattle.walk_laws.proofs.Ends.{walk-ends, walk-all}
 use Rattle.walk_laws.proofs.Fills.{fill-moved}
 use Rattle.walk_laws.proofs.Gaps.{spaced}
+use Rattle.walk_laws.proofs.Nexts.{as-nexts}
 use Rattle.walk_laws.proofs.Prefixes.{next-fine}
 use Rattle.walk_laws.proofs.Rest.{moved-next}
 use Rattle.walk_laws.proofs.Taken.{Wf, start-wf, start-fine}
@@ -53,7 +54,7 @@ one-place lw t b c = refl
 
 module _ (lw : ℕ → ℕ → ℕ) (bounded : Bounded lw) (t : ℕ) (nexts : ℕ → Cursor → Step) (fills : ℕ → ℕ → Cursor → Filled) where
   abbrev call : Ask → Cursor → Filled
-  call = asked nexts fills
+  call = askedOf nexts fills
 
   abbrev begin : Cursor
   begin = startAt t (lw t 0)
@@ -92,3 +93,9 @@ module _ (lw : ℕ → ℕ → ℕ) (bounded : Bounded lw) (t : ℕ) (nexts : �
     -- and enough calls end it
     pub calls-over : (l : List Ask) → Some l → allReads lw t + length (allIds lw t) ≤ length l → runBy call begin l .over ≡ true
     calls-over l some h = ap (λ (x : Run). x .over) (from-start l .0) ∙ walk-ends lw bounded t l some h
+
+    -- where every set summary bit stands over a word that is not 0, calls in any mix are as spaced as next alone
+    pub calls-spaced-as : Full lw t → (l : List Ask) → SpacedAs t nexts fills l begin
+    calls-spaced-as full l =
+        let n = as-nexts lw t l begin in
+        record { budgets = n .0; same = from-start l .0 ∙ n .1 ∙ sym (from-start (map one (n .0)) .0); gaps = calls-spaced lw bounded t nexts is full (n .0) }

@@ -4,7 +4,7 @@ use Prim.Native.Nat.{ℕ, zero, suc, _+_, _*_, _≤_, _<_}
 use native.Mathlib.Omega.{arith}
 use Rattle.util.specs.Word.{bit, keep, places, bits}
 use Rattle.walk_laws.specs.Under.{summed, readsUnder, allReads}
-use Rattle.walk_laws.specs.Walks.{Within}
+use Rattle.walk_laws.specs.Walks.{InsideOf}
 
 -- a sum grows with its places and its summands
 sum-le : (f g p q : ℕ → ℕ) → ((i : ℕ) → f i ≤ g i) → (b n : ℕ) → ((i : ℕ) → b ≤ i → i < b + n → p i ≤ q i) → summed f (places p b n) ≤ summed g (places q b n)
@@ -19,7 +19,7 @@ sum-le f g p q le b (suc n) sub = go (p b) (q b) refl refl (sum-le f g p q le (s
     go (suc x) zero u v ih = absurd (omega (arith, sub b (omega arith) (omega arith), u, v))
     go (suc x) (suc y) u v ih = omega (arith, ih, le b)
 
-module _ (lw lv : ℕ → ℕ → ℕ) (t : ℕ) (sub : Within lw lv t) where
+module _ (lw lv : ℕ → ℕ → ℕ) (t : ℕ) (sub : InsideOf lw lv t) where
   reads-below : (k p : ℕ) → k ≤ suc t → readsUnder lw k p ≤ readsUnder lv k p
   unfolding readsUnder bits
   reads-below zero p h = omega arith

@@ -18,8 +18,8 @@ use Rattle.walk_fill.specs.declared.Stop.{Stop}
 use Rattle.walk_fill.specs.declared.Stop.the-variants.{Full, Paused as StopPaused, End as StopEnd, Refused as StopRefused}
 use Rattle.walk_laws.specs.Calls.{Stopped, Keeps}
 use Rattle.walk_laws.specs.Calls.Stopped.{full, paused, ended}
-use Rattle.walk_laws.specs.Walks.{Bounded, Kept}
-use Rattle.walk_laws.specs.Walks.Kept.{member, paused as pausedAt, ended as endedAt}
+use Rattle.walk_laws.specs.Walks.{Bounded, KeptBudget}
+use Rattle.walk_laws.specs.Walks.KeptBudget.{member, paused as pausedAt, ended as endedAt}
 use Rattle.walk_laws.proofs.Prefixes.{next-fine}
 use Rattle.walk_laws.proofs.Rest.{rest, cost, Moves, gone, Moved, moved-next}
 use Rattle.walk_laws.proofs.Taken.{Wf}
@@ -27,19 +27,19 @@ use Rattle.walk_laws.proofs.Taken.{Wf}
 -- ---- one next
 
 module _ (lw : ℕ → ℕ → ℕ) (t : ℕ) where
-  kept-by : (b : ℕ) (c : Cursor) (f : ℕ → Step) → ((j : ℕ) → Kept b (f j .answer) (f j .reads)) → (k : Kind)
-      → Kept b (byKind t c f k .answer) (byKind t c f k .reads)
+  kept-by : (b : ℕ) (c : Cursor) (f : ℕ → Step) → ((j : ℕ) → KeptBudget b (f j .answer) (f j .reads)) → (k : Kind)
+      → KeptBudget b (byKind t c f k .answer) (byKind t c f k .reads)
   kept-by b c f g gives = member {r = 0} (omega arith)
   kept-by b c f g (reads j) = g j
   kept-by b c f g done = endedAt {r = 0} (omega arith)
 
-  kept-more : (b r : ℕ) (o : Next) → Kept b o r → Kept (suc b) o (1 + r)
+  kept-more : (b r : ℕ) (o : Next) → KeptBudget b o r → KeptBudget (suc b) o (1 + r)
   kept-more b r o (member h) = member {r = 1 + r} (omega arith)
-  kept-more b r o pausedAt = subst (Kept (suc b) Paused) (sym (one-add b)) pausedAt
+  kept-more b r o pausedAt = subst (KeptBudget (suc b) Paused) (sym (one-add b)) pausedAt
   kept-more b r o (endedAt h) = endedAt {r = 1 + r} (omega arith)
 
   -- A CALL never reads past its budget, a paused one has spent it exactly, and none refuses.
-  pub next-kept : (b : ℕ) (c : Cursor) → Kept b (next lw t b c .answer) (next lw t b c .reads)
+  pub next-kept : (b : ℕ) (c : Cursor) → KeptBudget b (next lw t b c .answer) (next lw t b c .reads)
   unfolding next
   next-kept zero c = kept-by 0 c (λ j. before c) (λ j. pausedAt) (kind t c)
   next-kept (suc b) c = kept-by (suc b) c (λ j. more 1 (next lw t b (descend lw t j c)))
@@ -62,7 +62,7 @@ stopped-more b d m r h is Full n q (full g) = full {r = r + q} (omega arith)
 stopped-more b d m r h is StopPaused n q (paused g) = let z : b ≡ r + d = omega arith in subst (Stopped b (suc m) StopPaused (suc n)) z (paused {n = suc n} (omega arith))
 stopped-more b d m r h is StopEnd n q (ended g k) = ended {n = suc n} {r = r + q} (omega arith) (omega arith)
 
-stopped-by : (b m : ℕ) (o : Next) (r : ℕ) → Kept b o r → (c : Cursor) (on : Cursor → Filled) → Keeps (b - r) m (on c)
+stopped-by : (b m : ℕ) (o : Next) (r : ℕ) → KeptBudget b o r → (c : Cursor) (on : Cursor → Filled) → Keeps (b - r) m (on c)
     → Keeps b (suc m) (goOn o r c on)
 stopped-by b m (Member v) r (member h) c on s = stopped-more b (b - r) m r h refl (on c .stop) (length (on c .ids)) (on c .reads) s
 stopped-by b m Paused r pausedAt c on s = paused {n = 0} (omega arith)

@@ -3,6 +3,7 @@ pub mod Rest
 pub mod Prefixes
 pub mod Fills
 pub mod Ends
+pub mod Nexts
 pub mod Members
 pub mod Gaps
 pub mod Fewer

@@ -21,7 +21,7 @@ use Rattle.walk.specs.declared.Next.{Next}
 use Rattle.walk.specs.declared.Next.the-variants.{Member, Paused, End, Refused}
 use Rattle.walk.specs.declared.Step.{Step}
 use Rattle.walk.proofs.Cursors.{Low, low-found, prefix-top}
-use Rattle.walk_laws.specs.Under.{joined, summed, under, readsUnder, allIds, allReads}
+use Rattle.walk_laws.specs.Under.{gathered, summed, under, readsUnder, allIds, allReads}
 use Rattle.walk_laws.proofs.Taken.{Wf, taken-mask, taken-prefix, taken-mask-up, taken-mask-else, taken-prefix-else, taken-wf, handed-wf, start-mask, start-below}
 
 -- ---- one mask
@@ -29,14 +29,14 @@ use Rattle.walk_laws.proofs.Taken.{Wf, taken-mask, taken-prefix, taken-
 module _ (lw : ℕ → ℕ → ℕ) where
   -- what is below the set bits of a mask of layer k, at a prefix; and how many words are read below them
   unfoldable pub scan : ℕ → ℕ → ℕ → List ℕ
-  scan k m p = joined (λ b. under lw k (p + b)) (bits m)
+  scan k m p = gathered (λ b. under lw k (p + b)) (bits m)
 
   unfoldable pub scanReads : ℕ → ℕ → ℕ → ℕ
   scanReads k m p = summed (λ b. readsUnder lw k (p + b)) (bits m)
 
   scan-zero : (k p : ℕ) → scan k 0 p ≡ []
-  unfolding scan joined
-  scan-zero k p = ap (joined (λ b. under lw k (p + b))) bits-zero
+  unfolding scan gathered
+  scan-zero k p = ap (gathered (λ b. under lw k (p + b))) bits-zero
 
   scanReads-zero : (k p : ℕ) → scanReads k 0 p ≡ 0
   unfolding scanReads summed
@@ -47,8 +47,8 @@ module _ (lw : ℕ → ℕ → ℕ) where
     split = bits-lowest m (trailingZeros 64 m) h (lowest m h pos)
 
     scan-lowest : scan k m p ≡ under lw k (p + trailingZeros 64 m) ++ scan k (m - 2 ^ trailingZeros 64 m) p
-    unfolding scan joined
-    scan-lowest = ap (joined (λ b. under lw k (p + b))) split
+    unfolding scan gathered
+    scan-lowest = ap (gathered (λ b. under lw k (p + b))) split
 
     scanReads-lowest : scanReads k m p ≡ readsUnder lw k (p + trailingZeros 64 m) + scanReads k (m - 2 ^ trailingZeros 64 m) p
     unfolding scanReads summed

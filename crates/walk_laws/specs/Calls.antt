@@ -34,9 +34,9 @@ abbrev pub alone : Step → Filled
 alone a = goOn (a .answer) (a .reads) (a .cursor) (stopped Full 0)
 
 -- a call, by what next does with a budget, and fill with a budget and a number of places
-abbrev pub asked : (ℕ → Cursor → Step) → (ℕ → ℕ → Cursor → Filled) → Ask → Cursor → Filled
-asked nexts fills (one b) c = alone (nexts b c)
-asked nexts fills (many b m) c = fills b m c
+abbrev pub askedOf : (ℕ → Cursor → Step) → (ℕ → ℕ → Cursor → Filled) → Ask → Cursor → Filled
+askedOf nexts fills (one b) c = alone (nexts b c)
+askedOf nexts fills (many b m) c = fills b m c
 
 -- a stop at budget b and m places, with the ids handed out and the reads: all places taken, or all of the budget spent, or the end; the
 -- reads are within the budget, the ids within the places, and it is never a refusal

@@ -5,9 +5,9 @@ use Prim.Native.Nat.{ℕ, zero, suc, _+_, _*_}
 use Rattle.util.specs.Word.{bits}
 
 -- f at each number of a list, the lists joined, and the numbers summed
-unfoldable pub joined : (ℕ → List ℕ) → List ℕ → List ℕ
-joined f [] = []
-joined f (b ∷ l) = f b ++ joined f l
+unfoldable pub gathered : (ℕ → List ℕ) → List ℕ → List ℕ
+gathered f [] = []
+gathered f (b ∷ l) = f b ++ gathered f l
 
 unfoldable pub summed : (ℕ → ℕ) → List ℕ → ℕ
 summed f [] = 0
@@ -17,7 +17,7 @@ module _ (lw : ℕ → ℕ → ℕ) where
   -- the ids below place p of layer k, ascending: the place itself in layer 0, else those below each set bit of the word it stands for
   unfoldable pub under : ℕ → ℕ → List ℕ
   under zero p = p ∷ []
-  under (suc k) p = joined (λ b. under k (p * 64 + b)) (bits (lw k p))
+  under (suc k) p = gathered (λ b. under k (p * 64 + b)) (bits (lw k p))
 
   -- "The definition's count: the top word, and each word whose summary bit is set in a word that is read." The words read below place p
   -- of layer k: the word it stands for, and those below each of its set bits.

@@ -1,5 +1,5 @@
 -- What is said of walks: over any layer words `lw`, with t the top layer, and on one store.
-use mathlib.Core.List.{List, [], _∷_, List·Memᴰ}
+use mathlib.Core.List.{List, [], _∷_, map, List·Memᴰ}
 use mathlib.Core.Logic.{_↔_}
 use mathlib.Core.Path.{_≡_}
 use Prim.Native.Nat.{ℕ, suc, _+_, _/_, _%_, _^_, _≤_, _<_}
@@ -12,7 +12,8 @@ use Rattle.walk.specs.declared.Next.{Next}
 use Rattle.walk.specs.declared.Next.the-variants.{Member, Paused, End, Refused}
 use Rattle.walk.specs.declared.Step.{Step}
 use Rattle.walk_fill.specs.Fill.{Filled, fillIn}
-use Rattle.walk_laws.specs.Calls.{Ask, asked, Run, runBy}
+use Rattle.walk_laws.specs.Calls.{Ask, askedOf, Run, runBy}
+use Rattle.walk_laws.specs.Calls.Ask.{one}
 use Rattle.walk_laws.specs.Under.{allReads}
 
 -- ---- layer words
@@ -34,16 +35,16 @@ abbrev pub Full : (ℕ → ℕ → ℕ) → ℕ → Type 0
 Full lw t = (k p : ℕ) → k < t → onAt lw (suc k) p ≡ 1 → 0 < lw k p
 
 -- every bit of lw is on in lv, in the layers up to t
-abbrev pub Within : (ℕ → ℕ → ℕ) → (ℕ → ℕ → ℕ) → ℕ → Type 0
-Within lw lv t = (k p i : ℕ) → k ≤ t → i < 64 → bit (lw k p) i ≤ bit (lv k p) i
+abbrev pub InsideOf : (ℕ → ℕ → ℕ) → (ℕ → ℕ → ℕ) → ℕ → Type 0
+InsideOf lw lv t = (k p i : ℕ) → k ≤ t → i < 64 → bit (lw k p) i ≤ bit (lv k p) i
 
 -- ---- budgets and gaps
 
 -- an answer at budget b with its reads: a member or the end within the budget, or paused with all of it spent; never a refusal
-pub data Kept (b : ℕ) : Next → ℕ → Type 0 where
-  member : {v r : ℕ} → r ≤ b → Kept b (Member v) r
-  paused : Kept b Paused b
-  ended : {r : ℕ} → r ≤ b → Kept b End r
+pub data KeptBudget (b : ℕ) : Next → ℕ → Type 0 where
+  member : {v r : ℕ} → r ≤ b → KeptBudget b (Member v) r
+  paused : KeptBudget b Paused b
+  ended : {r : ℕ} → r ≤ b → KeptBudget b End r
 
 -- "after the top word, at most three words are read before each next member and none before the end": n words were read since the last
 -- member, or since the start, when this answer comes; t is the top layer's number
@@ -58,6 +59,12 @@ unfoldable pub Spaced : ℕ → (ℕ → Cursor → Step) → List ℕ → Curso
 Spaced t call [] c r = Unit {0}
 Spaced t call (b ∷ bs) c r = let a = call b c in spacedBy t (a .answer) (r + a .reads) (Spaced t call bs (a .cursor))
 
+-- the same of calls of next and fill in any mix: they hand out and read what calls of next alone do, at some budgets, which are spaced
+pub record SpacedAs (t : ℕ) (nexts : ℕ → Cursor → Step) (fills : ℕ → ℕ → Cursor → Filled) (l : List Ask) (c : Cursor) : Type 0 where
+  pub budgets : List ℕ
+  pub same : runBy (askedOf nexts fills) c l ≡ runBy (askedOf nexts fills) c (map one budgets)
+  pub gaps : Spaced t nexts budgets c 0
+
 -- ---- on one store
 
 -- a call of next and of fill, the budget first, and one of either by what it is asked for
@@ -68,7 +75,7 @@ abbrev pub fillOn : List ℕ → ℕ → ℕ → Cursor → Filled
 fillOn s b m c = fillIn s c b m
 
 abbrev pub callOn : List ℕ → Ask → Cursor → Filled
-callOn s = asked (nextOn s) (fillOn s)
+callOn s = askedOf (nextOn s) (fillOn s)
 
 -- started with any cursor, and then a call for each ask of a list; its total is the reads after the start's
 abbrev pub walkOn : List ℕ → Cursor → List Ask → Run

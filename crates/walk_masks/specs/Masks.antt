@@ -16,12 +16,12 @@ abbrev pub between : ℕ → ℕ → ℕ → Bool
 between a l b = ltb a l && ltb l b
 
 -- layer k "gives its lowest bit"
-abbrev pub lowest : List ℕ → ℕ → ℕ
-lowest ms k = trailingZeros 64 (getD ms k 0)
+abbrev pub lowestBit : List ℕ → ℕ → ℕ
+lowestBit ms k = trailingZeros 64 (getD ms k 0)
 
 -- the masks with layer k's without it
 abbrev pub bare : List ℕ → ℕ → List ℕ
-bare ms k = set ms k (getD ms k 0 - 2 ^ lowest ms k)
+bare ms k = set ms k (getD ms k 0 - 2 ^ lowestBit ms k)
 
 -- layer k's prefix; the top layer has none
 unfoldable pub prefixAt : ℕ → List ℕ → ℕ → ℕ

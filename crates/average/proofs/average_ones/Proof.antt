@@ -11,7 +11,7 @@ use lib.Dec.{T, ltb, leb, lit<, ltb→lt, leb→le}
 use lib.Pow.{shr-lt}
 use Rattle.util.specs.Outcome.{Settled}
 use Rattle.average.specs.Average.{paper, averageOf}
-use Rattle.average.specs.Search.{tally, above, Within, Step}
+use Rattle.average.specs.Search.{tally, bitsAbove, InRange, HalfStep}
 use Rattle.average.specs.declared.Half.the-variants.{At}
 use Rattle.average.specs.declared.Search.{Search}
 use Rattle.average.proofs.Average.{found, none-found, above-none, above-all}
@@ -32,7 +32,7 @@ module _ (n e : ℕ) (word : n < 2 ^ 64) (is : e ≡ tally 32 2 n) where
   unfolding lower twice
   count-is = ap (byOneMask 32 1) is ∙ mask-widens 32 (lit< tt) 1 n ∙ tally-whole 64 n word
 
-  cur-is : e / 2 ^ 32 ≡ above n 32
+  cur-is : e / 2 ^ 32 ≡ bitsAbove n 32
   unfolding tally
   cur-is =
       ap (λ (x : ℕ). x / 2 ^ 32) is ∙ digits-div (tally 32 1 (n / 2 ^ 32)) (field-lt 32 n)
@@ -41,7 +41,7 @@ module _ (n e : ℕ) (word : n < 2 ^ 64) (is : e ≡ tally 32 2 n) where
   small : e < 2 ^ 63
   small = omega (arith, cur-is, ones-le 32 (n / 2 ^ 32) (shr-lt 32 32 word))
 
-  start : 1 < counted e → Within n (ones n / 2) 32 (whole e)
+  start : 1 < counted e → InRange n (ones n / 2) 32 (whole e)
   start h =
       record {
         field = 0;
@@ -54,8 +54,8 @@ module _ (n e : ℕ) (word : n < 2 ^ 64) (is : e ≡ tally 32 2 n) where
       }
 
 -- what `descend` asks, from where the search stands
-step : (n t k m q : ℕ) {s : Search} {child mask : ℕ} → Within n t (k + k) s → child ≡ tally k m n
-    → T (ltb 0 k) → m * k ≡ 64 → mask ≡ 2 ^ q - 1 → T (ltb k (2 ^ q)) → T (leb q k) → Step n t s child k mask
+step : (n t k m q : ℕ) {s : Search} {child mask : ℕ} → InRange n t (k + k) s → child ≡ tally k m n
+    → T (ltb 0 k) → m * k ≡ 64 → mask ≡ 2 ^ q - 1 → T (ltb k (2 ^ q)) → T (leb q k) → HalfStep n t s child k mask
 step n t k m q w i s a e g l =
     record {
       from = w;
@@ -91,23 +91,23 @@ Word c = c .before .before .args .n
 abbrev Goal : tie.Else1 → ℕ
 Goal c = ones (Word c) / 2
 
-s16 : (c : tie.Else1) → Step (Word c) (Goal c) (whole (c .before .count-fields .result .e)) (c .before .count-fields .result .d) 16 255
+s16 : (c : tie.Else1) → HalfStep (Word c) (Goal c) (whole (c .before .count-fields .result .e)) (c .before .count-fields .result .d) 16 255
 s16 c =
     let l = c .before .count-fields in
     step (Word c) (Goal c) 16 4 8 (start (Word c) (l .result .e) (c .before .before .fits .n .fits) (l .ensures .e-is) (c .if1 .left)) (l .ensures .d-is) tt refl refl tt tt
 
-s8 : (c : tie.After-descend) → Step (Word (c .before)) (Goal (c .before)) (c .descend .result) (c .before .before .count-fields .result .c) 8 15
+s8 : (c : tie.After-descend) → HalfStep (Word (c .before)) (Goal (c .before)) (c .descend .result) (c .before .before .count-fields .result .c) 8 15
 s8 c = step _ _ 8 8 4 (c .descend .ensures _ _ (s16 (c .before))) (c .before .before .count-fields .ensures .c-is) tt refl refl tt tt
 
-s4 : (c : tie.After-descend2) → Step (Word (c .before .before)) (Goal (c .before .before)) (c .descend2 .result) (c .before .before .before .count-fields .result .b) 4 7
+s4 : (c : tie.After-descend2) → HalfStep (Word (c .before .before)) (Goal (c .before .before)) (c .descend2 .result) (c .before .before .before .count-fields .result .b) 4 7
 s4 c = step _ _ 4 16 3 (c .descend2 .ensures _ _ (s8 (c .before))) (c .before .before .before .count-fields .ensures .b-is) tt refl refl tt tt
 
 s2 : (c : tie.After-descend3)
-    → Step (Word (c .before .before .before)) (Goal (c .before .before .before)) (c .descend3 .result) (c .before .before .before .before .count-fields .result .a) 2 3
+    → HalfStep (Word (c .before .before .before)) (Goal (c .before .before .before)) (c .descend3 .result) (c .before .before .before .before .count-fields .result .a) 2 3
 s2 c = step _ _ 2 32 2 (c .descend3 .ensures _ _ (s4 (c .before))) (c .before .before .before .before .count-fields .ensures .a-is) tt refl refl tt tt
 
 s1 : (c : tie.After-descend4)
-    → Step (Word (c .before .before .before .before)) (Goal (c .before .before .before .before)) (c .descend4 .result) (Word (c .before .before .before .before)) 1 1
+    → HalfStep (Word (c .before .before .before .before)) (Goal (c .before .before .before .before)) (c .descend4 .result) (Word (c .before .before .before .before)) 1 1
 s1 c =
     let d = c .before .before .before .before in
     step _ _ 1 64 1 (c .descend4 .ensures _ _ (s2 (c .before))) (sym (tally-bits 64 (Word d) (d .before .before .fits .n .fits))) tt refl refl tt tt
@@ -128,12 +128,12 @@ descend-requires-5 : tie.Need-descend-requires-5
 descend-requires-5 c κs = (_, _, s1 c)
 
 -- where the search ends: two bits are left
-last : (c : tie.After-descend5) → let d = c .before .before .before .before .before in Within (Word d) (Goal d) 1 (c .descend5 .result)
+last : (c : tie.After-descend5) → let d = c .before .before .before .before .before in InRange (Word d) (Goal d) 1 (c .descend5 .result)
 last c = c .descend5 .ensures _ _ (s1 (c .before))
 
 -- a place of which the bits above are too few and those from it on enough is the answer
 ended : (c : tie.After-descend5) (p : ℕ) → let d = c .before .before .before .before .before in
-    p < c .descend5 .result .result → above (Word d) (suc p) < Goal d → Goal d ≤ above (Word d) p → Settled paper (averageOf (Word d)) (At p) tt
+    p < c .descend5 .result .result → bitsAbove (Word d) (suc p) < Goal d → Goal d ≤ bitsAbove (Word d) p → Settled paper (averageOf (Word d)) (At p) tt
 ended c p l lo hi =
     let d = c .before .before .before .before .before in
     found (Word d) (d .before .before .fits .n .fits) p (omega (arith, last c .inside)) lo hi
@@ -151,7 +151,7 @@ returns-2 c =
     let r : ℕ = d .descend5 .result .result in
     let a = last d in
     let e : suc (r - 2) ≡ r - 1 = omega (arith, a .aligned) in
-    ended d (r - 2) (omega (arith, a .aligned)) (omega (arith, ap (above n) e, a .cur-is, a .target-is, c .before .if2 .taken)) (a .reach)
+    ended d (r - 2) (omega (arith, a .aligned)) (omega (arith, ap (bitsAbove n) e, a .cur-is, a .target-is, c .before .if2 .taken)) (a .reach)
 
 returns-3 : tie.Need-returns-3
 returns-3 c =
@@ -160,7 +160,7 @@ returns-3 c =
     let r : ℕ = d .descend5 .result .result in
     let a = last d in
     let e : suc (r - 1) ≡ r = omega (arith, a .aligned) in
-    ended d (r - 1) (omega (arith, a .aligned)) (omega (arith, ap (above n) e, a .target-is, a .target-pos)) (omega (arith, a .cur-is, a .target-is, c .before .if2 .left))
+    ended d (r - 1) (omega (arith, a .aligned)) (omega (arith, ap (bitsAbove n) e, a .target-is, a .target-pos)) (omega (arith, a .cur-is, a .target-is, c .before .if2 .left))
 
 pub average-ones-spec : {M : Type 1} → statement M
 average-ones-spec =

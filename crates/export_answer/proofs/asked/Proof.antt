@@ -5,7 +5,7 @@ use Prim.Native.Nat.{ℕ}
 use borrow.Author.Needs.{needs}
 use Rattle.store.specs.Answer.{askedPaper}
 use Rattle.export_answer.specs.Abi.{answerOf}
-use Rattle.export_answer.proofs.Tells.{told}
+use Rattle.export_answer.proofs.Tells.{tells-paper}
 use Rattle.export_answer.proofs.asked.Statement.{statement}
 use Rattle.export_answer.proofs.asked.Tie as tie
 
@@ -25,10 +25,10 @@ refused-requires : tie.Need-refused-requires
 refused-requires c κs = search needs
 
 returns : tie.Need-returns
-returns c = told askedPaper (c .value .ensures ∙ ap (λ (v : ℕ). answerOf (0 ∷ v ∷ [])) (c .before .yes .ensures)) (c .before .before .before .r .given .1)
+returns c = tells-paper askedPaper (c .value .ensures ∙ ap (λ (v : ℕ). answerOf (0 ∷ v ∷ [])) (c .before .yes .ensures)) (c .before .before .before .r .given .1)
 
 returns-2 : tie.Need-returns-2
-returns-2 c = told askedPaper (c .refused .ensures) (c .before .before .r2 .given .1)
+returns-2 c = tells-paper askedPaper (c .refused .ensures) (c .before .before .r2 .given .1)
 
 pub asked-spec : {M : Type 1} → statement M
 asked-spec =

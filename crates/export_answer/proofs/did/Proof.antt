@@ -1,7 +1,7 @@
 -- `did` meets its contract. Assumes nothing.
 use borrow.Author.Needs.{needs}
 use Rattle.store.specs.Answer.{didPaper}
-use Rattle.export_answer.proofs.Tells.{told}
+use Rattle.export_answer.proofs.Tells.{tells-paper}
 use Rattle.export_answer.proofs.did.Statement.{statement}
 use Rattle.export_answer.proofs.did.Tie as tie
 
@@ -18,10 +18,10 @@ refused-requires : tie.Need-refused-requires
 refused-requires c κs = search needs
 
 returns : tie.Need-returns
-returns c = told didPaper (c .value .ensures) (c .before .enum-told .given .1)
+returns c = tells-paper didPaper (c .value .ensures) (c .before .enum-told .given .1)
 
 returns-2 : tie.Need-returns-2
-returns-2 c = told didPaper (c .refused .ensures) (c .before .before .r .given .1)
+returns-2 c = tells-paper didPaper (c .refused .ensures) (c .before .before .r .given .1)
 
 pub did-spec : {M : Type 1} → statement M
 did-spec =

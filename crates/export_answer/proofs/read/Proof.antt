@@ -1,7 +1,7 @@
 -- `read` meets its contract. Assumes nothing.
 use borrow.Author.Needs.{needs}
 use Rattle.store.specs.Answer.{readPaper}
-use Rattle.export_answer.proofs.Tells.{told}
+use Rattle.export_answer.proofs.Tells.{tells-paper}
 use Rattle.export_answer.proofs.read.Statement.{statement}
 use Rattle.export_answer.proofs.read.Tie as tie
 
@@ -18,10 +18,10 @@ refused-requires : tie.Need-refused-requires
 refused-requires c κs = search needs
 
 returns : tie.Need-returns
-returns c = told readPaper (c .value .ensures) (c .before .before .r .given .1)
+returns c = tells-paper readPaper (c .value .ensures) (c .before .before .r .given .1)
 
 returns-2 : tie.Need-returns-2
-returns-2 c = told readPaper (c .refused .ensures) (c .before .before .r2 .given .1)
+returns-2 c = tells-paper readPaper (c .refused .ensures) (c .before .before .r2 .given .1)
 
 pub read-spec : {M : Type 1} → statement M
 read-spec =

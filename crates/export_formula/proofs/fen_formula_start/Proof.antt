@@ -5,14 +5,14 @@ use Rattle.walk.specs.declared.Cursor.{Cursor}
 use Rattle.walk.specs.declared.Step.{Step}
 use Rattle.walk.proofs.Answers.{the-step}
 use Rattle.formula_codes.specs.Tree.{four}
-use Rattle.formula_walk.specs.Calls.{startIn}
+use Rattle.formula_walk.specs.Calls.{formulaStartIn}
 use Rattle.export_cursor.specs.Ten.{cursorOf}
-use Rattle.export_step.specs.Answers.{movedOf, wordsOf}
+use Rattle.export_step.specs.Answers.{movedOf, cursorAfter}
 use Rattle.export_formula.proofs.fen_formula_start.Statement.{statement}
 use Rattle.export_formula.proofs.fen_formula_start.Tie as tie
 
-taken-requires : tie.Need-taken-requires
-taken-requires c κs = search needs
+cursor-in-requires : tie.Need-cursor-in-requires
+cursor-in-requires c κs = search needs
 
 start-requires : tie.Need-start-requires
 start-requires c κs = search needs
@@ -28,9 +28,9 @@ returns c =
     let ss = four (a .s0 .now) (a .s1 .now) (a .s2 .now) (a .s3 .now) in
     let cs = a .codes .now in
     let l = a .cursor .now in
-    let e : n .start .result ≡ startIn ss cs (cursorOf l) =
-    the-step (startIn ss cs (t .taken .result)) (n .start .ensures) ∙ ap (λ (x : Cursor). startIn ss cs x) (t .taken .ensures) in
-    (c .told-step .ensures .0 ∙ ap movedOf e, c .told-step .ensures .1 ∙ ap (λ (x : Step). wordsOf x l) e)
+    let e : n .start .result ≡ formulaStartIn ss cs (cursorOf l) =
+    the-step (formulaStartIn ss cs (t .cursor-in .result)) (n .start .ensures) ∙ ap (λ (x : Cursor). formulaStartIn ss cs x) (t .cursor-in .ensures) in
+    (c .told-step .ensures .0 ∙ ap movedOf e, c .told-step .ensures .1 ∙ ap (λ (x : Step). cursorAfter x l) e)
 
 pub fen-formula-start-spec : {M : Type 1} → statement M
-fen-formula-start-spec = tie.close (tie.spec taken-requires start-requires told-step-requires returns)
+fen-formula-start-spec = tie.close (tie.spec cursor-in-requires start-requires told-step-requires returns)

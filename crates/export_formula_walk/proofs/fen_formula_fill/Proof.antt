@@ -7,14 +7,14 @@ use Rattle.walk_fill.specs.Fill.{Filled, batch}
 use Rattle.walk_fill.specs.declared.Batch.{Batch}
 use Rattle.walk_fill.proofs.Fills.{the-batch}
 use Rattle.formula_codes.specs.Tree.{four}
-use Rattle.formula_fill.specs.Calls.{fillIn}
+use Rattle.formula_fill.specs.Calls.{formulaFillIn}
 use Rattle.export_cursor.specs.Ten.{cursorOf}
 use Rattle.export_step.specs.Answers.{stopOf, leftOf, outOf}
 use Rattle.export_formula_walk.proofs.fen_formula_fill.Statement.{statement}
 use Rattle.export_formula_walk.proofs.fen_formula_fill.Tie as tie
 
-taken-requires : tie.Need-taken-requires
-taken-requires c κs = search needs
+cursor-in-requires : tie.Need-cursor-in-requires
+cursor-in-requires c κs = search needs
 
 fill-requires : tie.Need-fill-requires
 fill-requires c κs = search needs
@@ -34,9 +34,9 @@ returns c =
     let cs = a .codes .now in
     let l = a .cursor .now in
     let o = a .out .now in
-    let f = fillIn ss cs (t .taken .result) (a .budget) (length o) in
-    let e : f ≡ fillIn ss cs (cursorOf l) (a .budget) (length o) = ap (λ (x : Cursor). fillIn ss cs x (a .budget) (length o)) (t .taken .ensures) in
-    let g : n .fill .result ≡ batch (fillIn ss cs (cursorOf l) (a .budget) (length o)) = the-batch f o (n .fill .ensures) ∙ ap batch e in (
+    let f = formulaFillIn ss cs (t .cursor-in .result) (a .budget) (length o) in
+    let e : f ≡ formulaFillIn ss cs (cursorOf l) (a .budget) (length o) = ap (λ (x : Cursor). formulaFillIn ss cs x (a .budget) (length o)) (t .cursor-in .ensures) in
+    let g : n .fill .result ≡ batch (formulaFillIn ss cs (cursorOf l) (a .budget) (length o)) = the-batch f o (n .fill .ensures) ∙ ap batch e in (
       c .told-batch .ensures .0 ∙ ap (λ (x : Batch). stopOf (x .stop) (x .count)) g,
       (
         c .told-batch .ensures .1 ∙ ap (λ (x : Batch). leftOf (stopOf (x .stop) (x .count)) l (x .cursor) (x .reads)) g,
@@ -46,4 +46,4 @@ returns c =
 
 pub fen-formula-fill-spec : {M : Type 1} → statement M
 fen-formula-fill-spec =
-    tie.close (tie.spec taken-requires fill-requires told-batch-requires same-length returns)
+    tie.close (tie.spec cursor-in-requires fill-requires told-batch-requires same-length returns)

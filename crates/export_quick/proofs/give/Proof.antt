@@ -6,7 +6,7 @@ use native.Mathlib.Omega.{arith}
 use borrow.Author.Needs.{needs}
 use lib.Count.{trailing-le}
 use lib.ListN.{getD}
-use Rattle.export_quick.specs.Handing.{idOf, handedOf}
+use Rattle.export_quick.specs.Handing.{handedId, handedOf}
 use Rattle.export_quick.proofs.give.Statement.{statement}
 use Rattle.export_quick.proofs.give.Tie as tie
 
@@ -49,7 +49,7 @@ add-result c =
     record { fits = omega (arith, s .pre .1, trailing-le 64 (getD (s .args .words .now) 0 0)) }
 
 returns : tie.Need-returns
-unfolding idOf handedOf
+unfolding handedId handedOf
 returns c =
     let k = c .before in
     let l = k .before .before .before .before .before .before .before .before .before .before .args .words .now in (

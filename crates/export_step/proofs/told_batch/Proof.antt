@@ -14,15 +14,15 @@ returns c =
     let a = m .before .args in
     (m .stopped .ensures, kept (m .stopped .ensures) (a .words .now) (a .b .cursor) (a .b .reads) (c .if1 .taken))
 
-put-requires : tie.Need-put-requires
-put-requires c κs = search needs
+cursor-out-requires : tie.Need-cursor-out-requires
+cursor-out-requires c κs = search needs
 
 returns-2 : tie.Need-returns-2
 returns-2 c =
     let t = c .before .before .before in
     let m = t .before .before in
     let a = m .before .args in
-    (m .stopped .ensures, c .put .ensures ∙ wrote (m .stopped .ensures) (a .words .now) (a .b .cursor) (a .b .reads) (t .if1 .left))
+    (m .stopped .ensures, c .cursor-out .ensures ∙ wrote (m .stopped .ensures) (a .words .now) (a .b .cursor) (a .b .reads) (t .if1 .left))
 
 pub told-batch-spec : {M : Type 1} → statement M
-told-batch-spec = tie.close (tie.spec stopped-requires returns put-requires returns-2)
+told-batch-spec = tie.close (tie.spec stopped-requires returns cursor-out-requires returns-2)

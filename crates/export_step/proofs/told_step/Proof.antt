@@ -14,15 +14,15 @@ returns c =
     let a = m .before .args in
     (m .moved .ensures, kept (m .moved .ensures) (a .words .now) (a .s .cursor) (a .s .reads) (c .if1 .taken))
 
-put-requires : tie.Need-put-requires
-put-requires c κs = search needs
+cursor-out-requires : tie.Need-cursor-out-requires
+cursor-out-requires c κs = search needs
 
 returns-2 : tie.Need-returns-2
 returns-2 c =
     let t = c .before .before .before in
     let m = t .before .before in
     let a = m .before .args in
-    (m .moved .ensures, c .put .ensures ∙ wrote (m .moved .ensures) (a .words .now) (a .s .cursor) (a .s .reads) (t .if1 .left))
+    (m .moved .ensures, c .cursor-out .ensures ∙ wrote (m .moved .ensures) (a .words .now) (a .s .cursor) (a .s .reads) (t .if1 .left))
 
 pub told-step-spec : {M : Type 1} → statement M
-told-step-spec = tie.close (tie.spec moved-requires returns put-requires returns-2)
+told-step-spec = tie.close (tie.spec moved-requires returns cursor-out-requires returns-2)

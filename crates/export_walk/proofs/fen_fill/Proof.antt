@@ -11,8 +11,8 @@ use Rattle.export_step.specs.Answers.{stopOf, leftOf, outOf}
 use Rattle.export_walk.proofs.fen_fill.Statement.{statement}
 use Rattle.export_walk.proofs.fen_fill.Tie as tie
 
-taken-requires : tie.Need-taken-requires
-taken-requires c κs = search needs
+cursor-in-requires : tie.Need-cursor-in-requires
+cursor-in-requires c κs = search needs
 
 fill-requires : tie.Need-fill-requires
 fill-requires c κs = search needs
@@ -31,8 +31,8 @@ returns c =
     let s = a .store .now in
     let l = a .cursor .now in
     let o = a .out .now in
-    let f = fillIn s (t .taken .result) (a .budget) (length o) in
-    let e : f ≡ fillIn s (cursorOf l) (a .budget) (length o) = ap (λ (x : Cursor). fillIn s x (a .budget) (length o)) (t .taken .ensures) in
+    let f = fillIn s (t .cursor-in .result) (a .budget) (length o) in
+    let e : f ≡ fillIn s (cursorOf l) (a .budget) (length o) = ap (λ (x : Cursor). fillIn s x (a .budget) (length o)) (t .cursor-in .ensures) in
     let g : n .fill .result ≡ batch (fillIn s (cursorOf l) (a .budget) (length o)) = the-batch f o (n .fill .ensures) ∙ ap batch e in (
       c .told-batch .ensures .0 ∙ ap (λ (x : Batch). stopOf (x .stop) (x .count)) g,
       (
@@ -43,4 +43,4 @@ returns c =
 
 pub fen-fill-spec : {M : Type 1} → statement M
 fen-fill-spec =
-    tie.close (tie.spec taken-requires fill-requires told-batch-requires same-length returns)
+    tie.close (tie.spec cursor-in-requires fill-requires told-batch-requires same-length returns)

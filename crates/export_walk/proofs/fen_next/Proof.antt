@@ -5,11 +5,11 @@ use Prim.Native.Nat.{ℕ}
 use borrow.Author.Needs.{needs}
 use Rattle.walk.specs.Calls.{nextIn}
 use Rattle.walk.specs.declared.Cursor.{Cursor}
-use Rattle.walk.specs.declared.Step.{Step as Stepped}
+use Rattle.walk.specs.declared.Step.{Step}
 use Rattle.walk.proofs.Answers.{the-step}
 use Rattle.export_cursor.specs.Ten.{cursorOf}
 use Rattle.export_quick.proofs.Quickly.{quick-some, quick-none, quick-next, quick-put}
-use Rattle.export_step.specs.Answers.{movedOf, wordsOf}
+use Rattle.export_step.specs.Answers.{movedOf, cursorAfter}
 use Rattle.export_walk.proofs.fen_next.Statement.{statement}
 use Rattle.export_walk.proofs.fen_next.Tie as tie
 
@@ -25,11 +25,11 @@ returns c =
     let q = quick-some s l (k .quick .ensures .0) (k .quick .ensures .1) (c .if1 .taken) in
     let e = quick-next s l (q .0) (a .budget) in (
       ap (λ (x : ℕ). record { which = 1; value = x }) (q .1) ∙ sym (ap movedOf e),
-      q .2 ∙ sym (quick-put s l (q .0)) ∙ sym (ap (λ (x : Stepped). wordsOf x l) e),
+      q .2 ∙ sym (quick-put s l (q .0)) ∙ sym (ap (λ (x : Step). cursorAfter x l) e),
     )
 
-taken-requires : tie.Need-taken-requires
-taken-requires c κs = search needs
+cursor-in-requires : tie.Need-cursor-in-requires
+cursor-in-requires c κs = search needs
 
 next-requires : tie.Need-next-requires
 next-requires c κs = search needs
@@ -49,12 +49,12 @@ returns-2 c =
     let w = k .quick .last .1 .0 in
     let same : w ≡ l = quick-none s l (k .quick .ensures .0) (k .quick .ensures .1) (f .if1 .left) in
     let e : n .next .result ≡ nextIn s (cursorOf w) (a .budget) =
-    the-step (nextIn s (t .taken .result) (a .budget)) (n .next .ensures) ∙ ap (λ (x : Cursor). nextIn s x (a .budget)) (t .taken .ensures) in (
+    the-step (nextIn s (t .cursor-in .result) (a .budget)) (n .next .ensures) ∙ ap (λ (x : Cursor). nextIn s x (a .budget)) (t .cursor-in .ensures) in (
       c .told-step .ensures .0 ∙ ap movedOf e ∙ ap (λ (x : List ℕ). movedOf (nextIn s (cursorOf x) (a .budget))) same,
-      c .told-step .ensures .1 ∙ ap (λ (x : Stepped). wordsOf x w) e ∙ ap (λ (x : List ℕ). wordsOf (nextIn s (cursorOf x) (a .budget)) x) same,
+      c .told-step .ensures .1 ∙ ap (λ (x : Step). cursorAfter x w) e ∙ ap (λ (x : List ℕ). cursorAfter (nextIn s (cursorOf x) (a .budget)) x) same,
     )
 
 pub fen-next-spec : {M : Type 1} → statement M
 fen-next-spec =
     tie.close
-    (tie.spec quick-requires returns taken-requires next-requires told-step-requires returns-2)
+    (tie.spec quick-requires returns cursor-in-requires next-requires told-step-requires returns-2)

@@ -6,12 +6,12 @@ use Rattle.walk.specs.declared.Cursor.{Cursor}
 use Rattle.walk.specs.declared.Step.{Step}
 use Rattle.walk.proofs.Answers.{the-step}
 use Rattle.export_cursor.specs.Ten.{cursorOf}
-use Rattle.export_step.specs.Answers.{movedOf, wordsOf}
+use Rattle.export_step.specs.Answers.{movedOf, cursorAfter}
 use Rattle.export_walk.proofs.fen_start.Statement.{statement}
 use Rattle.export_walk.proofs.fen_start.Tie as tie
 
-taken-requires : tie.Need-taken-requires
-taken-requires c κs = search needs
+cursor-in-requires : tie.Need-cursor-in-requires
+cursor-in-requires c κs = search needs
 
 start-requires : tie.Need-start-requires
 start-requires c κs = search needs
@@ -27,8 +27,8 @@ returns c =
     let s = a .store .now in
     let l = a .cursor .now in
     let e : n .start .result ≡ startIn s (cursorOf l) =
-    the-step (startIn s (t .taken .result)) (n .start .ensures) ∙ ap (λ (x : Cursor). startIn s x) (t .taken .ensures) in
-    (c .told-step .ensures .0 ∙ ap movedOf e, c .told-step .ensures .1 ∙ ap (λ (x : Step). wordsOf x l) e)
+    the-step (startIn s (t .cursor-in .result)) (n .start .ensures) ∙ ap (λ (x : Cursor). startIn s x) (t .cursor-in .ensures) in
+    (c .told-step .ensures .0 ∙ ap movedOf e, c .told-step .ensures .1 ∙ ap (λ (x : Step). cursorAfter x l) e)
 
 pub fen-start-spec : {M : Type 1} → statement M
-fen-start-spec = tie.close (tie.spec taken-requires start-requires told-step-requires returns)
+fen-start-spec = tie.close (tie.spec cursor-in-requires start-requires told-step-requires returns)

@@ -13,15 +13,15 @@ returns c =
     let a = c .before .before .before .before .before .before .before .args in
     contains-refused (a .s0 .now) (a .s1 .now) (a .s2 .now) (a .s3 .now) (a .codes .now) (c .before .check .ensures) (a .id) (c .if1 .taken)
 
-get-requires : tie.Need-get-requires
-get-requires c κs = search needs
+named-requires : tie.Need-named-requires
+named-requires c κs = search needs
 
 returns-2 : tie.Need-returns-2
 returns-2 c =
     let g = c .before in
     let e = g .before in
     let a = e .before .before .before .before .before .before .before .args in
-    contains-past (a .s0 .now) (a .s1 .now) (a .s2 .now) (a .s3 .now) (a .codes .now) (e .before .check .ensures) (e .if1 .left) (g .get .ensures) (a .id) (c .if2 .taken)
+    contains-past (a .s0 .now) (a .s1 .now) (a .s2 .now) (a .s3 .now) (a .codes .now) (e .before .check .ensures) (e .if1 .left) (g .named .ensures) (a .id) (c .if2 .taken)
 
 word-requires : tie.Need-word-requires
 word-requires c κs = search needs
@@ -36,7 +36,7 @@ returns-3 c =
     let g = l .before in
     let e = g .before in
     let a = e .before .before .before .before .before .before .before .args in
-    contains-is (a .s0 .now) (a .s1 .now) (a .s2 .now) (a .s3 .now) (a .codes .now) (e .before .check .ensures) (e .if1 .left) (g .get .ensures) (a .id) (l .if2 .left) (w .word .ensures) (c .is-set .ensures)
+    contains-is (a .s0 .now) (a .s1 .now) (a .s2 .now) (a .s3 .now) (a .codes .now) (e .before .check .ensures) (e .if1 .left) (g .named .ensures) (a .id) (l .if2 .left) (w .word .ensures) (c .is-set .ensures)
 
 pub contains-spec : {M : Type 1} → statement M
 contains-spec =
@@ -44,7 +44,7 @@ contains-spec =
     (tie.spec
     check-requires
     returns
-    get-requires
+    named-requires
     returns-2
     word-requires
     is-set-requires

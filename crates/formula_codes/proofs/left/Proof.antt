@@ -3,19 +3,19 @@ use Prim.Native.Nat.{_-_}
 use native.Mathlib.Omega.{arith}
 use borrow.Author.Needs.{needs}
 use lib.ListN.{length}
-use Rattle.formula_codes.specs.Steps.{Going}
-use Rattle.formula_codes.proofs.Turns.{going-start, stops, goes-on, all-done}
+use Rattle.formula_codes.specs.Steps.{Counting}
+use Rattle.formula_codes.proofs.Turns.{counting-start, stops, goes-on, all-done}
 use Rattle.formula_codes.proofs.left.Statement.{statement}
 use Rattle.formula_codes.proofs.left.Tie as tie
 
 abbrev Inv-loop : tie.InvT-loop
-Inv-loop codes lens d₀ j₀ d j = Going lens codes d j
+Inv-loop codes lens d₀ j₀ d j = Counting lens codes d j
 
 abbrev μ-loop : tie.MeasureT-loop
 μ-loop codes lens d₀ j₀ d j = length codes - j
 
 loop-holds : tie.Need-loop-holds Inv-loop μ-loop
-loop-holds c = going-start _ _
+loop-holds c = counting-start _ _
 
 shared-slice-read-after : tie.Need-shared-slice-read-after Inv-loop μ-loop
 shared-slice-read-after c = search needs

@@ -8,7 +8,7 @@ array-read-if1 : tie.Need-array-read-if1
 array-read-if1 c = search needs
 
 returns : tie.Need-returns
-returns c = sink-none _ _ _ _ (c .if1 .taken)
+returns c = sink-none _ _ _ _ _ (c .if1 .taken)
 
 sink-requires : tie.Need-sink-requires
 sink-requires c κs = search needs

@@ -1,4 +1,5 @@
 -- `down` meets its contract. Assumes nothing.
+use Rattle.store.specs.Layout.{topMost}
 use mathlib.Core.Path.{refl}
 use native.Mathlib.Omega.{arith}
 use borrow.Author.Needs.{needs}
@@ -20,7 +21,7 @@ sunk-requires c κs = search needs
 returns : tie.Need-returns
 returns c =
     let t = c .before in
-    steps-none (rests-at-hand (begin (t .before) .args .c) (t .if1 .taken)) (c .sunk .ensures)
+    steps-none (rests-at-hand topMost (begin (t .before) .args .c) (t .if1 .taken)) (c .sunk .ensures)
 
 array-read-if2 : tie.Need-array-read-if2
 array-read-if2 c = search needs

@@ -1,7 +1,13 @@
 -- `fill` meets its contract. Assumes nothing.
+use mathlib.Core.Path.{subst}
+use Prim.Native.Nat.{ℕ}
 use borrow.Author.Needs.{needs}
+use Rattle.store.specs.Layout.{top}
+use Rattle.store.proofs.TopLayer.{top-is}
+use Rattle.walk.specs.Calls.{Fine}
 use Rattle.walk.proofs.Cursors.{fine-of}
-use Rattle.formula_pair.proofs.Pairs.{was-taken, pair-refused, pair-runs}
+use Rattle.formula_pair.specs.Pair.{pairWords}
+use Rattle.formula_pair.proofs.Pairs.{over-taken, over-refused, pair-runs}
 use Rattle.formula_pair.proofs.fill.Statement.{statement}
 use Rattle.formula_pair.proofs.fill.Tie as tie
 
@@ -15,7 +21,7 @@ returns : tie.Need-returns
 returns c =
     let t = c .before in
     let a = t .before .before .before .before .before .args in
-    pair-refused (a .code) (a .a .now) (a .b .now) (a .c) (a .budget) (a .out .now) (t .before .refusal .ensures) (t .if1 .taken) (c .made .ensures)
+    over-refused (a .c) (a .n) (t .before .refusal .ensures) (pairWords (a .code) (a .a .now) (a .b .now)) (a .budget) (a .out .now) (t .if1 .taken) (c .made .ensures)
 
 layer2-as-slice-requires : tie.Need-layer2-as-slice-requires
 layer2-as-slice-requires c κs = search needs
@@ -39,7 +45,8 @@ fill-in-requires : tie.Need-fill-in-requires
 fill-in-requires c κs =
     let e = c .before .before .before .before .before .before .before in
     let a = e .before .before .before .before .before .args in
-    fine-of 3 _ (was-taken (a .code) (a .a .now) (a .b .now) (a .c) (a .budget) (a .out .now) (e .before .refusal .ensures) (e .if1 .left))
+    let h = over-taken (a .c) (a .n) (e .before .refusal .ensures) (e .if1 .left) in
+    subst (λ (t : ℕ). Fine t (a .c .prefix)) (top-is (a .n)) (fine-of (top (a .n)) (a .c .prefix) h)
 
 same-length : tie.Need-same-length
 same-length c = search needs
@@ -55,7 +62,7 @@ returns-2 c =
     let a2 = a1 .before in
     let e = a2 .before in
     let a = e .before .before .before .before .before .args in
-    pair-runs (a .code) (a .a .now) (a .b .now) (a .c) (a .budget) (a .out .now) (e .before .refusal .ensures) (e .if1 .left)
+    pair-runs (a .c) (a .n) (e .before .refusal .ensures) (a .code) (a .a .now) (a .b .now) (a .budget) (a .out .now) (e .if1 .left)
     (a2 .layer2-as-slice .ensures .words) (a1 .layer1-as-slice .ensures .words) (a0 .layer0-as-slice .ensures .words)
     (b2 .layer2-as-slice2 .ensures .words) (b1 .layer1-as-slice2 .ensures .words) (b0 .layer0-as-slice2 .ensures .words) (f .fill-in .ensures)
 

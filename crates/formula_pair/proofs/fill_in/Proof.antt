@@ -5,22 +5,23 @@ use Prim.Native.Nat.{_-_, _*_, _^_, _<_}
 use native.Mathlib.Omega.{arith}
 use borrow.Author.Needs.{needs}
 use lib.ListN.{length}
+use Rattle.store.specs.Layout.{topMost}
 use Rattle.walk.specs.Steps.{Sank}
-use Rattle.walk.proofs.Cursors.{id-small}
 use Rattle.walk_fill.specs.Steps.{Filling}
-use Rattle.walk_fill.proofs.Fills.{fill-start, fill-down, fill-rest, fill-again, fill-full, as-batch}
+use Rattle.walk_fill.proofs.Fills.{fill-start, fill-down, fill-rest, fill-handed, fill-full, as-batch}
 use Rattle.formula_pair.specs.Pair.{joinedParts}
 use Rattle.formula_pair.proofs.fill_in.Statement.{statement}
 use Rattle.formula_pair.proofs.fill_in.Tie as tie
 
 abbrev Inv-loop : tie.InvT-loop
-Inv-loop code a2 a1 a0 b2 b1 b0 budget out₀ c₀ spent₀ count₀ out c spent count = Filling (joinedParts code (a0 ∷ a1 ∷ a2 ∷ []) (b0 ∷ b1 ∷ b2 ∷ [])) 3 budget c₀ out₀ c spent count out
+Inv-loop code a2 a1 a0 b2 b1 b0 budget out₀ c₀ spent₀ count₀ out c spent count =
+    Filling (joinedParts code (a0 ∷ a1 ∷ a2 ∷ []) (b0 ∷ b1 ∷ b2 ∷ [])) topMost budget c₀ out₀ c spent count out
 
 abbrev μ-loop : tie.MeasureT-loop
 μ-loop code a2 a1 a0 b2 b1 b0 budget out₀ c₀ spent₀ count₀ out c spent count = length out₀ - count
 
 loop-holds : tie.Need-loop-holds Inv-loop μ-loop
-loop-holds c = fill-start _ 3 _ _ _ (c .before .before .before .before .before .before .before .pre)
+loop-holds c = fill-start _ topMost _ _ _ (c .before .before .before .before .before .before .before .pre)
 
 sink-requires : tie.Need-sink-requires Inv-loop μ-loop
 sink-requires c κs = search needs
@@ -32,14 +33,14 @@ in-of c = c .before .before .before
 sank-here : (c : tie.After-if12 Inv-loop μ-loop)
     → let l = in-of c .before in
     let a = l .before .before .before .before .before .before .before .before .args in
-    Sank (joinedParts (a .code) (a .a0 .now ∷ a .a1 .now ∷ a .a2 .now ∷ []) (a .b0 .now ∷ a .b1 .now ∷ a .b2 .now ∷ [])) (a .budget) (l .loop .spent) (l .loop .c) (c .before .before .sink .result)
+    Sank (joinedParts (a .code) (a .a0 .now ∷ a .a1 .now ∷ a .a2 .now ∷ []) (a .b0 .now ∷ a .b1 .now ∷ a .b2 .now ∷ [])) topMost (a .budget) (l .loop .spent) (l .loop .c) (c .before .before .sink .result)
 sank-here c = let i = in-of c .before .loop .inv in c .before .before .sink .ensures .sank (i .fine) (i .spent)
 
 filling-here : (c : tie.After-if12 Inv-loop μ-loop)
     → let l = in-of c .before in
     let a = l .before .before .before .before .before .before .before .before .args in
     let d = c .before .before .sink .result in
-    Filling (joinedParts (a .code) (a .a0 .now ∷ a .a1 .now ∷ a .a2 .now ∷ []) (a .b0 .now ∷ a .b1 .now ∷ a .b2 .now ∷ [])) 3 (a .budget) (a .from) (a .out .now) (d .cursor) (d .reads) (l .loop .count) (l .loop .out)
+    Filling (joinedParts (a .code) (a .a0 .now ∷ a .a1 .now ∷ a .a2 .now ∷ []) (a .b0 .now ∷ a .b1 .now ∷ a .b2 .now ∷ [])) topMost (a .budget) (a .from) (a .out .now) (d .cursor) (d .reads) (l .loop .count) (l .loop .out)
 filling-here c = fill-down (in-of c .before .loop .inv) (in-of c .loop-test .taken) (sank-here c .going)
 
 element-copy-out-if1 : tie.Need-element-copy-out-if1 Inv-loop μ-loop
@@ -57,13 +58,8 @@ returns c =
     as-batch (c .rest .ensures)
     (fill-rest (filling-here (t .before)) (in-of (t .before) .loop-test .taken) (t .if1 .taken) (sank-here (t .before) .stopped))
 
-place-requires : tie.Need-place-requires Inv-loop μ-loop
-place-requires c κs = tt
-
-cast-out : tie.Need-cast-out Inv-loop μ-loop
-cast-out c =
-    let e = c .before in
-    record { fits = omega (arith, id-small (e .before .before .before .sink .result .cursor) (filling-here (e .before) .fine) (e .if1 .left) (c .place .ensures .1), c .place .ensures .0) }
+hand-out-requires : tie.Need-hand-out-requires Inv-loop μ-loop
+hand-out-requires c κs = tt
 
 -- `out` takes less than 2 ^ 63 bytes
 room-here : (i : tie.In-loop Inv-loop μ-loop) → i .before .loop .count * 4 < 2 ^ 63
@@ -72,28 +68,19 @@ room-here i =
     let g : length (s .args .out .now) * 4 < 2 ^ 63 = s .good .1 .1 .1 .1 .1 .1 .1 .1 .1 .0 .1 in
     omega (arith, g, i .loop-test .taken, i .before .loop .inv .long)
 
-mul-out : tie.Need-mul-out Inv-loop μ-loop
-mul-out c = record { fits = omega (arith, room-here (in-of (c .before .before))) }
-
-slice-write-out : tie.Need-slice-write-out Inv-loop μ-loop
-slice-write-out c = in-of (c .before .before) .loop-test .taken
-
-hand-requires : tie.Need-hand-requires Inv-loop μ-loop
-hand-requires c κs = tt
-
 add-count : tie.Need-add-count Inv-loop μ-loop
-add-count c = omega (arith, room-here (in-of (c .before .before .before)))
+add-count c = omega (arith, room-here (in-of (c .before .before .before .before .before)))
 
 loop-less : tie.Need-loop-less Inv-loop μ-loop
 loop-less c =
-    let i = in-of (c .before .before .before) in
+    let i = in-of (c .before .before .before .before .before) in
     omega (arith, i .loop-test .taken, i .before .loop .inv .long)
 
 loop-again : tie.Need-loop-again Inv-loop μ-loop
 loop-again c =
-    let p = c .before in
-    let e = p .before in
-    fill-again (filling-here (e .before)) (in-of (e .before) .loop-test .taken) (e .if1 .left) (c .hand .result) (p .place .result) (c .hand .ensures) (p .place .ensures .0)
+    let h = c .before .before in
+    let e = h .before .before in
+    fill-handed (filling-here (e .before)) (in-of (e .before) .loop-test .taken) (omega arith) (e .if1 .left) (h .hand-out .ensures)
 
 made-requires : tie.Need-made-requires Inv-loop μ-loop
 made-requires c κs = tt
@@ -116,11 +103,7 @@ fill-in-spec =
     rest-requires
     same-length
     returns
-    place-requires
-    cast-out
-    mul-out
-    slice-write-out
-    hand-requires
+    hand-out-requires
     add-count
     loop-less
     loop-again

@@ -3,13 +3,14 @@ use mathlib.Core.List.{[], _∷_}
 use Prim.Native.Nat.{_-_}
 use native.Mathlib.Omega.{arith}
 use borrow.Author.Needs.{needs}
+use Rattle.store.specs.Layout.{topMost}
 use Rattle.walk.proofs.Turns.{Sinking, sink-start, sink-again, sink-rests, sink-none, sink-spent}
 use Rattle.formula_pair.specs.Pair.{joinedParts}
 use Rattle.formula_pair.proofs.sink.Statement.{statement}
 use Rattle.formula_pair.proofs.sink.Tie as tie
 
 abbrev Inv-loop : tie.InvT-loop
-Inv-loop code a2 a1 a0 b2 b1 b0 spent budget c₀ reads₀ c reads = Sinking (joinedParts code (a0 ∷ a1 ∷ a2 ∷ []) (b0 ∷ b1 ∷ b2 ∷ [])) budget spent c₀ c reads
+Inv-loop code a2 a1 a0 b2 b1 b0 spent budget c₀ reads₀ c reads = Sinking (joinedParts code (a0 ∷ a1 ∷ a2 ∷ []) (b0 ∷ b1 ∷ b2 ∷ [])) topMost budget spent c₀ c reads
 
 abbrev μ-loop : tie.MeasureT-loop
 μ-loop code a2 a1 a0 b2 b1 b0 spent budget c₀ reads₀ c reads = budget - reads
@@ -18,10 +19,10 @@ array-read-if1 : tie.Need-array-read-if1 Inv-loop μ-loop
 array-read-if1 c = search needs
 
 returns : tie.Need-returns Inv-loop μ-loop
-returns c = sink-none _ _ _ _ (c .if1 .taken)
+returns c = sink-none _ _ _ _ _ (c .if1 .taken)
 
 loop-holds : tie.Need-loop-holds Inv-loop μ-loop
-loop-holds c = sink-start _ _ _ _
+loop-holds c = sink-start _ _ _ _ _
 
 down-requires : tie.Need-down-requires Inv-loop μ-loop
 down-requires c κs = tt

@@ -40,7 +40,7 @@ returns c =
     let second = first .before in
     let last = second .before in
     let a = last .before .before .before .before .before .before .before .args in
-    by-codes (four (a .s0 .now) (a .s1 .now) (a .s2 .now) (a .s3 .now)) (a .c) (a .budget) (a .out .now) (a .codes .now) 0 (last .code-at .ensures) (second .code-at2 .ensures) (first .code-at3 .ensures) (k .match .keys1) (f .fill-with .ensures)
+    by-codes (four (a .s0 .now) (a .s1 .now) (a .s2 .now) (a .s3 .now)) (a .c) (a .n) (a .budget) (a .out .now) (a .codes .now) 0 (last .code-at .ensures) (second .code-at2 .ensures) (first .code-at3 .ensures) (k .match .keys1) (f .fill-with .ensures)
 
 same-length-2 : tie.Need-same-length-2
 same-length-2 c = search needs
@@ -53,7 +53,7 @@ returns-2 c =
     let second = first .before in
     let last = second .before in
     let a = last .before .before .before .before .before .before .before .args in
-    by-codes (four (a .s0 .now) (a .s1 .now) (a .s2 .now) (a .s3 .now)) (a .c) (a .budget) (a .out .now) (a .codes .now) 1 (last .code-at .ensures) (second .code-at2 .ensures) (first .code-at3 .ensures) (k .match .keys2) (f .fill-with2 .ensures)
+    by-codes (four (a .s0 .now) (a .s1 .now) (a .s2 .now) (a .s3 .now)) (a .c) (a .n) (a .budget) (a .out .now) (a .codes .now) 1 (last .code-at .ensures) (second .code-at2 .ensures) (first .code-at3 .ensures) (k .match .keys2) (f .fill-with2 .ensures)
 
 same-length-3 : tie.Need-same-length-3
 same-length-3 c = search needs
@@ -66,7 +66,7 @@ returns-3 c =
     let second = first .before in
     let last = second .before in
     let a = last .before .before .before .before .before .before .before .args in
-    by-codes (four (a .s0 .now) (a .s1 .now) (a .s2 .now) (a .s3 .now)) (a .c) (a .budget) (a .out .now) (a .codes .now) 2 (last .code-at .ensures) (second .code-at2 .ensures) (first .code-at3 .ensures) (k .match .keys3) (f .fill-with3 .ensures)
+    by-codes (four (a .s0 .now) (a .s1 .now) (a .s2 .now) (a .s3 .now)) (a .c) (a .n) (a .budget) (a .out .now) (a .codes .now) 2 (last .code-at .ensures) (second .code-at2 .ensures) (first .code-at3 .ensures) (k .match .keys3) (f .fill-with3 .ensures)
 
 same-length-4 : tie.Need-same-length-4
 same-length-4 c = search needs
@@ -81,7 +81,7 @@ returns-4 c =
     let a = last .before .before .before .before .before .before .before .args in
     let r = k .match .rest in
     let e : first .code-at3 .result % 4 ≡ 3 = omega (arith, r .0 .0 .1, r .0 .1, r .1) in
-    by-codes (four (a .s0 .now) (a .s1 .now) (a .s2 .now) (a .s3 .now)) (a .c) (a .budget) (a .out .now) (a .codes .now) 3 (last .code-at .ensures) (second .code-at2 .ensures) (first .code-at3 .ensures) e (f .fill-with4 .ensures)
+    by-codes (four (a .s0 .now) (a .s1 .now) (a .s2 .now) (a .s3 .now)) (a .c) (a .n) (a .budget) (a .out .now) (a .codes .now) 3 (last .code-at .ensures) (second .code-at2 .ensures) (first .code-at3 .ensures) e (f .fill-with4 .ensures)
 
 pub fill-spec : {M : Type 1} → statement M
 fill-spec =

@@ -18,7 +18,7 @@ add-result : tie.Need-add-result
 add-result c =
     let t = c .before in
     let a = t .before .before .args in
-    omega (arith, place-fits (a .n) (a .k) (t .before .before .pre) (t .before .words-in .ensures) (t .if1 .taken) (c .end .ensures))
+    omega (arith, place-fits (a .n) (a .k) (t .before .words-in .ensures) (t .if1 .taken) (c .end .ensures))
 
 end-requires-2 : tie.Need-end-requires-2
 end-requires-2 c κs = search needs

@@ -15,10 +15,10 @@ end-requires-2 : tie.Need-end-requires-2
 end-requires-2 c κs = search needs
 
 sub-result : tie.Need-sub-result
-sub-result c = let a = c .before .before .args in omega (arith, starts-first (a .n) (a .k) (c .before .before .pre), c .end2 .ensures, c .before .end .ensures)
+sub-result c = let a = c .before .before .args in omega (arith, starts-first (a .n) (a .k), c .end2 .ensures, c .before .end .ensures)
 
 returns : tie.Need-returns
-returns c = let a = c .before .before .args in words-are (a .n) (a .k) (c .before .before .pre) (c .before .end .ensures) (c .end2 .ensures)
+returns c = let a = c .before .before .args in words-are (a .n) (a .k) (c .before .end .ensures) (c .end2 .ensures)
 
 pub words-in-spec : {M : Type 1} → statement M
 words-in-spec = tie.close (tie.spec end-requires add-end end-requires-2 sub-result returns)

@@ -1,4 +1,5 @@
 -- `formula_sink::read` meets its contract. Assumes nothing.
+use native.Mathlib.Omega.{arith}
 use mathlib.Core.Path.{refl}
 use borrow.Author.Needs.{needs}
 use Rattle.walk.proofs.Cursors.{lowers, lowers-at}
@@ -25,7 +26,7 @@ returns c =
     let a = s .args in
     let lw = machineWord (a .n) (four (a .s0 .now) (a .s1 .now) (a .s2 .now) (a .s3 .now)) (a .codes .now) in
     let v = s .pre .0 in
-    lowers-at (v .low) (λ i. refl) (lowers lw (v .small) (v .some) (v .placed)
+    lowers-at (v .low) (λ i. refl) (lowers lw (omega arith) (v .small) (v .some) (v .placed)
     (word-cut-is (a .s0 .now) (a .s1 .now) (a .s2 .now) (a .s3 .now) (a .codes .now) (a .n) _ _ (v .stands) (s .pre .1) (x .cut .ensures) (w .word-at .ensures))
     (c .lower .ensures))
 

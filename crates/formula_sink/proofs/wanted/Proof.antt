@@ -1,19 +1,16 @@
 -- `formula_sink::wanted` meets its contract. Assumes nothing.
 use native.Mathlib.Omega.{arith}
-use borrow.Author.Needs.{needs}
+use Rattle.store.specs.Layout.{topMost}
 use Rattle.walk.proofs.Cursors.{rests-at-hand, low-one-of-three, low-two-of-three, low-three-of-three, rests-at-the-end}
-use Rattle.formula_sink.proofs.Found.{found-none, found-one}
+use borrow.Author.Needs.{needs}
 use Rattle.formula_sink.proofs.wanted.Statement.{statement}
 use Rattle.formula_sink.proofs.wanted.Tie as tie
 
 array-read-if1 : tie.Need-array-read-if1
 array-read-if1 c = search needs
 
-nothing-requires : tie.Need-nothing-requires
-nothing-requires c κs = search needs
-
 returns : tie.Need-returns
-returns c = let t = c .before in found-none (rests-at-hand (t .before .before .args .c) (t .if1 .taken)) (c .nothing .ensures)
+returns c = rests-at-hand topMost (c .before .before .args .c) (c .if1 .taken)
 
 array-read-if2 : tie.Need-array-read-if2
 array-read-if2 c = search needs
@@ -25,7 +22,7 @@ below-requires c κs =
     (omega arith, l .0, l .1)
 
 returns-2 : tie.Need-returns-2
-returns-2 c = found-one (c .below .ensures)
+returns-2 c = search needs
 
 array-read-if3 : tie.Need-array-read-if3
 array-read-if3 c = search needs
@@ -38,7 +35,7 @@ below-requires-2 c κs =
     (omega arith, l .0, l .1)
 
 returns-3 : tie.Need-returns-3
-returns-3 c = found-one (c .below2 .ensures)
+returns-3 c = search needs
 
 array-read-if4 : tie.Need-array-read-if4
 array-read-if4 c = search needs
@@ -52,25 +49,20 @@ below-requires-3 c κs =
     (omega arith, l .0, l .1)
 
 returns-4 : tie.Need-returns-4
-returns-4 c = found-one (c .below3 .ensures)
-
-nothing-requires-2 : tie.Need-nothing-requires-2
-nothing-requires-2 c κs = search needs
+returns-4 c = search needs
 
 returns-5 : tie.Need-returns-5
 returns-5 c =
-    let h = c .before in
-    let g = h .before in
+    let g = c .before in
     let f = g .before in
     let e = f .before in
-    found-none (rests-at-the-end (e .before .before .args .c) (e .if1 .left) (f .if2 .left) (g .if3 .left) (h .if4 .left)) (c .nothing2 .ensures)
+    rests-at-the-end (e .before .before .args .c) (e .if1 .left) (f .if2 .left) (g .if3 .left) (c .if4 .left)
 
 pub wanted-spec : {M : Type 1} → statement M
 wanted-spec =
     tie.close
     (tie.spec
     array-read-if1
-    nothing-requires
     returns
     array-read-if2
     below-requires
@@ -81,5 +73,4 @@ wanted-spec =
     array-read-if4
     below-requires-3
     returns-4
-    nothing-requires-2
     returns-5)

@@ -1,7 +1,6 @@
 -- `next` meets its contract. Assumes nothing.
 use borrow.Author.Needs.{needs}
-use Rattle.walk.proofs.Cursors.{fine-of}
-use Rattle.formula_walk.proofs.Answers.{none-refused, next-refused, next-runs}
+use Rattle.formula_walk.proofs.Answers.{fine-here, next-refused, next-runs}
 use Rattle.formula_walk.proofs.next.Statement.{statement}
 use Rattle.formula_walk.proofs.next.Tie as tie
 
@@ -17,21 +16,21 @@ returns c =
     let a = t .before .before .before .before .before .before .before .args in
     next-refused (a .s0 .now) (a .s1 .now) (a .s2 .now) (a .s3 .now) (a .codes .now) (a .c) (t .before .refusal .ensures) (a .budget) (t .if1 .taken) (c .refused .ensures)
 
-get-requires : tie.Need-get-requires
-get-requires c κs = search needs
+named-requires : tie.Need-named-requires
+named-requires c κs = search needs
 
 run-requires : tie.Need-run-requires
 run-requires c κs =
     let e = c .before in
     let a = e .before .before .before .before .before .before .before .args in
-    fine-of 3 _ (none-refused (a .s0 .now) (a .s1 .now) (a .s2 .now) (a .s3 .now) (a .codes .now) (a .c) (e .before .refusal .ensures) (e .if1 .left) .1)
+    fine-here (a .s0 .now) (a .s1 .now) (a .s2 .now) (a .s3 .now) (a .codes .now) (a .c) (e .before .refusal .ensures) (e .if1 .left)
 
 returns-2 : tie.Need-returns-2
 returns-2 c =
     let g = c .before in
     let e = g .before in
     let a = e .before .before .before .before .before .before .before .args in
-    next-runs (a .s0 .now) (a .s1 .now) (a .s2 .now) (a .s3 .now) (a .codes .now) (a .c) (e .before .refusal .ensures) (a .budget) (e .if1 .left) (g .get .ensures) (c .run .ensures)
+    next-runs (a .s0 .now) (a .s1 .now) (a .s2 .now) (a .s3 .now) (a .codes .now) (a .c) (e .before .refusal .ensures) (a .budget) (e .if1 .left) (g .named .ensures) (c .run .ensures)
 
 pub next-spec : {M : Type 1} → statement M
-next-spec = tie.close (tie.spec refusal-requires refused-requires returns get-requires run-requires returns-2)
+next-spec = tie.close (tie.spec refusal-requires refused-requires returns named-requires run-requires returns-2)

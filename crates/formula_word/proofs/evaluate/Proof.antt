@@ -3,13 +3,13 @@ use mathlib.Core.Path.{refl, sym}
 use Prim.Native.Nat.{_-_}
 use native.Mathlib.Omega.{arith}
 use lib.ListN.{length}
-use Rattle.formula_word.specs.Steps.{Going}
+use Rattle.formula_word.specs.Steps.{Evaluating}
 use Rattle.formula_word.proofs.Arms.{goes-on, all-done}
 use Rattle.formula_word.proofs.evaluate.Statement.{statement}
 use Rattle.formula_word.proofs.evaluate.Tie as tie
 
 abbrev Inv-loop : tie.InvT-loop
-Inv-loop codes k cut words stack₀ d₀ last₀ j₀ stack d last j = Going k cut words codes stack d last j
+Inv-loop codes k cut words stack₀ d₀ last₀ j₀ stack d last j = Evaluating k cut words codes stack d last j
 
 abbrev μ-loop : tie.MeasureT-loop
 μ-loop codes k cut words stack₀ d₀ last₀ j₀ stack d last j = length codes - j

@@ -20,17 +20,17 @@ abbrev μ-loop : tie.MeasureT-loop
 loop-holds : tie.Need-loop-holds Inv-loop μ-loop
 loop-holds c = search needs
 
-gather-requires : tie.Need-gather-requires Inv-loop μ-loop
-gather-requires c κs = search needs
+gather-line-requires : tie.Need-gather-line-requires Inv-loop μ-loop
+gather-line-requires c κs = search needs
 
 step-requires : tie.Need-step-requires Inv-loop μ-loop
 step-requires c κs = search needs
 
 -- the piece goes on behind what was taken
-forward : (c : tie.After-gather Inv-loop μ-loop)
-    → (c .before .before .before .loop .i < c .gather .result .next)
-    × (c .gather .result .next ≤ length (now (c .before .before .before .before .before .before .before .before .args .piece)))
-forward c = goes-on _ _ _ _ (c .gather .ensures) (c .before .before .loop-test .taken)
+forward : (c : tie.After-gather-line Inv-loop μ-loop)
+    → (c .before .before .before .loop .i < c .gather-line .result .next)
+    × (c .gather-line .result .next ≤ length (now (c .before .before .before .before .before .before .before .before .args .piece)))
+forward c = goes-on _ _ _ _ (c .gather-line .ensures) (c .before .before .loop-test .taken)
 
 loop-less : tie.Need-loop-less Inv-loop μ-loop
 loop-less c = omega (arith, forward (c .before .before .before .before .before .before .before .before .before .before))
@@ -58,7 +58,7 @@ feed-spec =
     Inv-loop
     μ-loop
     loop-holds
-    gather-requires
+    gather-line-requires
     step-requires
     loop-less
     loop-again

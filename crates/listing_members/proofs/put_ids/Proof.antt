@@ -2,18 +2,18 @@
 use Prim.Native.Nat.{_-_}
 use borrow.Author.Needs.{needs}
 use lib.ListN.{length}
-use Rattle.listing_members.proofs.Naming.{Putting, puts-none, puts-turn, puts-end}
+use Rattle.listing_members.proofs.Naming.{PuttingIds, ids-none, puts-turn, puts-end}
 use Rattle.listing_members.proofs.put_ids.Statement.{statement}
 use Rattle.listing_members.proofs.put_ids.Tie as tie
 
 abbrev Inv-loop : tie.InvT-loop
-Inv-loop buf₀ at ids a₀ i₀ buf a i = Putting buf₀ at ids buf a i
+Inv-loop buf₀ at ids a₀ i₀ buf a i = PuttingIds buf₀ at ids buf a i
 
 abbrev μ-loop : tie.MeasureT-loop
 μ-loop buf₀ at ids a₀ i₀ buf a i = length ids - i
 
 loop-holds : tie.Need-loop-holds Inv-loop μ-loop
-loop-holds c = puts-none _ _ _
+loop-holds c = ids-none _ _ _
 
 mul-put-id : tie.Need-mul-put-id Inv-loop μ-loop
 mul-put-id c = search needs

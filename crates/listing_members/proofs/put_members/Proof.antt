@@ -33,14 +33,14 @@ returns c =
 store-here : (c : tie.Else1) → isStore (c .before .before .before .before .args .store .now) ≡ true
 store-here c = is-store (some-store (c .before .before .before .before .args .store .now) (c .before .capacity .ensures) (c .if1 .left))
 
-put-requires : tie.Need-put-requires
-put-requires c κs = search needs
+put-byte-requires : tie.Need-put-byte-requires
+put-byte-requires c κs = search needs
 
 put-walked-requires : tie.Need-put-walked-requires
 put-walked-requires c κs = store-here (c .before .before .before .before .before)
 
-put-requires-2 : tie.Need-put-requires-2
-put-requires-2 c κs = search needs
+put-byte-requires-2 : tie.Need-put-byte-requires-2
+put-byte-requires-2 c κs = search needs
 
 same-length-2 : tie.Need-same-length-2
 same-length-2 c = search needs
@@ -50,7 +50,7 @@ returns-2 c =
     let n = c .before .before in
     let w = n .before .before .before .before in
     let p = w .before .before .before .before in
-    whole-line _ _ _ (store-here (p .before .before)) (p .put .ensures) (w .put-walked .ensures) (n .put2 .ensures)
+    whole-line _ _ _ (store-here (p .before .before)) (p .put-byte .ensures) (w .put-walked .ensures) (n .put-byte2 .ensures)
 
 pub put-members-spec : {M : Type 1} → statement M
 put-members-spec =
@@ -61,8 +61,8 @@ put-members-spec =
     put-all-requires
     same-length
     returns
-    put-requires
+    put-byte-requires
     put-walked-requires
-    put-requires-2
+    put-byte-requires-2
     same-length-2
     returns-2)

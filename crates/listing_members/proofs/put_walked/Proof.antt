@@ -6,12 +6,12 @@ use borrow.Author.Needs.{needs}
 use borrow.Author.Tests.{not-true, not-false}
 use Rattle.store.specs.Word.{Words64}
 use Rattle.walk_batches.proofs.Batches.{toGo, Turn, turn, batch-length, less-to-go}
-use Rattle.listing_members.proofs.Naming.{Going, going-start, all-put, going-on}
+use Rattle.listing_members.proofs.Naming.{NamingFrom, naming-start, all-put, going-on}
 use Rattle.listing_members.proofs.put_walked.Statement.{statement}
 use Rattle.listing_members.proofs.put_walked.Tie as tie
 
 abbrev Inv-loop : tie.InvT-loop
-Inv-loop buf₀ at store ids₀ c₀ a₀ buf ids c a = Going store buf₀ at ids c buf a
+Inv-loop buf₀ at store ids₀ c₀ a₀ buf ids c a = NamingFrom store buf₀ at ids c buf a
 
 abbrev μ-loop : tie.MeasureT-loop
 μ-loop buf₀ at store ids₀ c₀ a₀ buf ids c a = toGo store c
@@ -26,7 +26,7 @@ words c x = c .before .shared-slice-known .given x .fits
 loop-holds : tie.Need-loop-holds Inv-loop μ-loop
 loop-holds c =
     let s = c .before .before .before in
-    going-start (s .args .store .now) (s .pre) (words c) _ _ (c .started .result) (omega arith) (c .started .ensures)
+    naming-start (s .args .store .now) (s .pre) (words c) _ _ (c .started .result) (omega arith) (c .started .ensures)
 
 slice-aggregate-fill : tie.Need-slice-aggregate-fill Inv-loop μ-loop
 slice-aggregate-fill c = sym (c .before .loop .inv .stands .long)

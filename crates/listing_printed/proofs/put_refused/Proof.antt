@@ -16,8 +16,8 @@ put-all-requires c κs = search needs
 put-number-requires : tie.Need-put-number-requires
 put-number-requires c κs = search needs
 
-put-requires : tie.Need-put-requires
-put-requires c κs = search needs
+put-byte-requires : tie.Need-put-byte-requires
+put-byte-requires c κs = search needs
 
 same-length : tie.Need-same-length
 same-length c = search needs
@@ -27,7 +27,7 @@ returns c =
     let p = c .before .before in
     let n = p .before .before .before .before in
     let w = n .before .before .before .before in
-    puts-behind _ _ _ _ (w .put-all .ensures) (put-behind _ _ _ _ (n .put-number .ensures) (p .put .ensures)) ∙ ap (putAllOf _ _) (sym (end-refused _ _))
+    puts-behind _ _ _ _ (w .put-all .ensures) (put-behind _ _ _ _ (n .put-number .ensures) (p .put-byte .ensures)) ∙ ap (putAllOf _ _) (sym (end-refused _ _))
 
 pub put-refused-spec : {M : Type 1} → statement M
 put-refused-spec =
@@ -36,6 +36,6 @@ put-refused-spec =
     slice-aggregate-put-all
     put-all-requires
     put-number-requires
-    put-requires
+    put-byte-requires
     same-length
     returns)

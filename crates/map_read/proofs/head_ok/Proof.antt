@@ -7,9 +7,10 @@ use borrow.Author.Needs.{needs}
 use borrow.Author.Tests.{not-true, not-false}
 use lib.Dec.{leb}
 use lib.ListN.{length}
-use Rattle.store.specs.Layout.{maxCap, isCap, room}
+use Rattle.store.specs.Layout.{maxCap, isCap, words, room}
+use Rattle.store.proofs.Ends.{cap-in, words-are}
 use Rattle.map_read.specs.Judge.{capIn}
-use Rattle.map_read.proofs.Right.{cap-most, no-head, head-last}
+use Rattle.map_read.proofs.Right.{no-head, head-last}
 use Rattle.map_read.proofs.head_ok.Statement.{statement}
 use Rattle.map_read.proofs.head_ok.Tie as tie
 
@@ -49,30 +50,43 @@ returns-3 c =
     let g2 = c .before .before .before .before in
     no-head (g2 .before .before .before .before .args .map .now) (λ z. omega (arith, z .offset, g2 .get2 .ensures, c .if3 .taken))
 
--- past the capacity test the numbers are small
-most : (c : tie.Else2) → c .before .before .before .before .get .result ≤ maxCap
-most c = omega (arith, c .before .before .before .before .get .ensures, cap-most (known c) .1)
+words-for-requires : tie.Need-words-for-requires
+words-for-requires c κs = search needs
 
-add-if4 : tie.Need-add-if4
-add-if4 c = omega (arith, most (c .before))
+-- past the capacity test the numbers are small
+within : (c : tie.Else2) → let n = c .before .before .before .before .get .result in (1 ≤ n) × (n ≤ maxCap)
+within c = cap-in _ (ap isCap (c .before .before .before .before .get .ensures) ∙ known c)
+
+asked : (c : tie.After-words-for)
+    → let g = c .before .before .before .before .before .before in
+    c .words-for .result ≡ words (g .get .result)
+asked c =
+    let n = within (c .before .before) in
+    c .words-for .ensures ∙ words-are (c .before .before .before .before .before .before .get .result) (n .0) (n .1)
 
 returns-4 : tie.Need-returns-4
 unfolding room
 returns-4 c =
-    let g3 = c .before .before .before .before in
+    let w = c .before in
+    let g3 = w .before .before .before .before in
     let g = g3 .before .before in
-    no-head (g .before .before .before .args .map .now) (λ z. omega (arith, z .few, g .get .ensures, g3 .get3 .ensures, c .if4 .taken))
+    no-head (g .before .before .before .args .map .now) (λ z. omega (arith, z .few, g .get .ensures, g3 .get3 .ensures, asked w, c .if4 .taken))
+
+-- past the last test there are no more entries than words
+few : (c : tie.Else4) → c .before .before .before .before .before .get3 .result ≤ words maxCap
+few c = omega (arith, asked (c .before), within (c .before .before .before) .1, c .if4 .left)
 
 mul-result : tie.Need-mul-result
-mul-result c = omega (arith, most (c .before .before), c .if4 .left)
+mul-result c = omega (arith, few c)
 
 add-result : tie.Need-add-result
-add-result c = omega (arith, most (c .before .before), c .if4 .left)
+add-result c = omega (arith, few c)
 
 returns-5 : tie.Need-returns-5
 unfolding room
 returns-5 c =
-    let o = c .before in
+    let w = c .before in
+    let o = w .before in
     let k = o .before in
     let g3 = k .before .before in
     let g2 = g3 .before in
@@ -80,7 +94,7 @@ returns-5 c =
     let l = g .before in
     ap (λ (u : ℕ). leb (16 + 12 * u) (length (l .before .before .args .map .now))) (g3 .get3 .ensures)
     ∙ head-last (l .before .before .args .map .now) (l .if1 .left) (known k) (omega (arith, g2 .get2 .ensures, o .if3 .left))
-    (omega (arith, g .get .ensures, g3 .get3 .ensures, c .if4 .left))
+    (omega (arith, g .get .ensures, g3 .get3 .ensures, asked w, c .if4 .left))
 
 pub head-ok-spec : {M : Type 1} → statement M
 head-ok-spec =
@@ -93,7 +107,7 @@ head-ok-spec =
     is-capacity-requires
     returns-2
     returns-3
-    add-if4
+    words-for-requires
     returns-4
     mul-result
     add-result

@@ -6,7 +6,7 @@ use native.Mathlib.Omega.{arith}
 use borrow.Author.Needs.{needs}
 use borrow.Author.Tests.{not-true, not-false}
 use lib.Count.{ones, ones-le}
-use Rattle.store.specs.Layout.{room}
+use Rattle.store.specs.Layout.{maxCap, words, room}
 use Rattle.map_read.specs.Judge.{entryOk}
 use Rattle.map_read.proofs.Loops.{Entry, Judged, judged-start, judged-turn, judged-bad, judged-good, judged-sum}
 use Rattle.map_read.proofs.Right.{entry-is, table-0, table-11}
@@ -23,7 +23,7 @@ loop-holds : tie.Need-loop-holds Inv-loop μ-loop
 loop-holds c = judged-start
 
 -- there are no more entries than words
-few : (c : tie.Start Inv-loop μ-loop) → c .args .used ≤ 262144
+few : (c : tie.Start Inv-loop μ-loop) → c .args .used ≤ words maxCap
 unfolding room
 few c = omega (arith, c .pre .few, c .pre .most)
 
@@ -43,7 +43,7 @@ get-requires-2 c κs =
     (omega (arith, s .pre .long, i .loop-test .taken), omega arith)
 
 entry-ok-requires : tie.Need-entry-ok-requires Inv-loop μ-loop
-entry-ok-requires c κs = c .before .before .before .before .before .pre .most
+entry-ok-requires c κs = let p = c .before .before .before .before .before .pre in (p .some, p .most)
 
 -- the entry that was read
 entry : (c : tie.After-get2 Inv-loop μ-loop)

@@ -7,21 +7,21 @@ use lib.ListN.{length}
 use Rattle.store.specs.Build.{build, empty}
 use Rattle.store.specs.Layout.{layerLen, StoreOf}
 use Rattle.store.proofs.Build.{store-empty}
-use Rattle.map_read.specs.Judge.{wordsOf}
-use Rattle.map_read.proofs.Layer.{cleared, rebuilt, start-in, laid, layer0-back, store-back, length-words}
-use Rattle.map_read.proofs.Right.{Accepted, accepted, table-there}
+use Rattle.map_read.specs.Judge.{mapWords}
+use Rattle.map_read.proofs.Layer.{store-cleared, rebuilt, start-in, laid, layer0-back, store-back, length-words}
+use Rattle.map_read.proofs.Right.{MapTaken, map-taken, table-there}
 use Rattle.map_read.proofs.replace.Statement.{statement}
 use Rattle.map_read.proofs.replace.Tie as tie
 
-fine : (c : tie.Start) → Accepted (c .args .map .now) (c .args .n)
-fine c = accepted (c .pre .accepted)
+fine : (c : tie.Start) → MapTaken (c .args .map .now) (c .args .n)
+fine c = map-taken (c .pre .accepted)
 
 clear-requires : tie.Need-clear-requires
 clear-requires c κs = search needs
 
 -- the cleared store
 empty-here : (c : tie.After-clear) → c .clear .last .0 ≡ empty (c .before .before .before .before .args .n)
-empty-here c = cleared (c .before .before .before .before .pre .store) (c .clear .ensures)
+empty-here c = store-cleared (c .before .before .before .before .pre .store) (c .clear .ensures)
 
 store-here : (c : tie.After-clear) → StoreOf (c .before .before .before .before .args .n) (c .clear .last .0)
 store-here c = let z = c .before .before .before .before .pre .store in rw (empty-here c) (store-empty _ (z .some) (z .most))
@@ -31,11 +31,11 @@ get-requires c κs =
     let s = c .before .before .before .before .before .before in
     (omega (arith, fine s .head .long), omega arith)
 
-end-requires : tie.Need-end-requires
-end-requires c κs = search needs
+start-requires : tie.Need-start-requires
+start-requires c κs = search needs
 
-layer-in : (c : tie.After-end) → c .end .result ≤ length (c .before .before .before .before .clear .last .0)
-layer-in c = start-in (store-here (c .before .before .before .before)) (c .end .ensures)
+layer-in : (c : tie.After-start) → c .start .result ≤ length (c .before .before .before .before .clear .last .0)
+layer-in c = start-in (store-here (c .before .before .before .before)) (c .start .ensures)
 
 mul-place : tie.Need-mul-place
 mul-place c = omega (arith, layer-in c)
@@ -70,12 +70,12 @@ place-requires c κs =
 -- the layer is what the map tells
 words-here : (c : tie.After-place)
     → let s = c .before .before .before .before .before .before .before .before .before .before .before in
-    c .place .last .0 ≡ wordsOf (s .args .n) (s .args .map .now)
+    c .place .last .0 ≡ mapWords (s .args .n) (s .args .map .now)
 words-here c =
     let e = c .before .before .before in
     let g = e .before in
     let k = g .before .before .before in
-    laid (store-here k) (e .end .ensures) (empty-here k) (k .before .before .before .before .args .map .now) (g .get .ensures) (c .place .ensures)
+    laid (store-here k) (e .start .ensures) (empty-here k) (k .before .before .before .before .args .map .now) (g .get .ensures) (c .place .ensures)
 
 long-here : (c : tie.After-place)
     → let s = c .before .before .before .before .before .before .before .before .before .before .before in
@@ -94,8 +94,8 @@ returns c =
     let p = r .before .before .before .before in
     let e = p .before .before .before in
     let k = e .before .before .before .before in
-    rebuilt (store-back (store-here k) (e .end .ensures) (p .place .last .0) (long-here p)) (r .rebuild .ensures)
-    ∙ ap (build (k .before .before .before .before .args .n)) (layer0-back (store-here k) (e .end .ensures) (p .place .last .0) (long-here p) ∙ words-here p)
+    rebuilt (store-back (store-here k) (e .start .ensures) (p .place .last .0) (long-here p)) (r .rebuild .ensures)
+    ∙ ap (build (k .before .before .before .before .args .n)) (layer0-back (store-here k) (e .start .ensures) (p .place .last .0) (long-here p) ∙ words-here p)
 
 pub replace-spec : {M : Type 1} → statement M
 replace-spec =
@@ -103,7 +103,7 @@ replace-spec =
     (tie.spec
     clear-requires
     get-requires
-    end-requires
+    start-requires
     mul-place
     sub-place
     part-place-start

@@ -3,13 +3,13 @@ use mathlib.Core.Path.{refl}
 use Prim.Native.Nat.{_+_, _-_}
 use native.Mathlib.Omega.{arith}
 use borrow.Author.Needs.{needs}
-use Rattle.map_write.specs.Steps.{Rooms}
+use Rattle.map_write.specs.Steps.{draftAt, Rooms}
 use Rattle.map_write.proofs.Entries.{Entering, entering-start, entering-room, entering-turn, entering-end, entered-long, word-room, word-entered}
 use Rattle.map_write.proofs.put_entries.Statement.{statement}
 use Rattle.map_write.proofs.put_entries.Tie as tie
 
 abbrev Inv-loop : tie.InvT-loop
-Inv-loop layer q n buf₀ at sum members₀ o₀ i₀ buf members o i = Entering layer q n at sum buf₀ i o members buf
+Inv-loop layer q n buf₀ at sum members₀ o₀ i₀ buf members o i = Entering layer q n (draftAt at sum buf₀) i (draftAt o members buf)
 
 abbrev μ-loop : tie.MeasureT-loop
 μ-loop layer q n buf₀ at sum members₀ o₀ i₀ buf members o i = n - i
@@ -30,7 +30,7 @@ shared-slice-read-put-entry c = search needs
 here : (c : tie.In-loop Inv-loop μ-loop)
     → let l = c .before .loop in
     let a = c .before .before .before .before .args in
-    Rooms (a .layer .now) (a .q + l .i) 1 (l .o) (l .members) (l .buf)
+    Rooms (a .layer .now) (a .q + l .i) 1 (draftAt (l .o) (l .members) (l .buf))
 here c =
     let s = c .before .before .before .before in
     let i = c .before .loop .i in

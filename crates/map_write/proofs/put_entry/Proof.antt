@@ -19,18 +19,18 @@ returns c = entered-zero (c .if1 .taken)
 here : (c : tie.Else1) → c .before .before .args .o + 12 ≤ length (c .before .before .args .buf .now)
 here c = room-one (c .before .before .pre) (c .if1 .left)
 
-put-requires : tie.Need-put-requires
-put-requires c κs = omega (arith, here (c .before))
+put-number-requires : tie.Need-put-number-requires
+put-number-requires c κs = omega (arith, here (c .before))
 
-add-put : tie.Need-add-put
-add-put c = search needs
+add-put-number : tie.Need-add-put-number
+add-put-number c = search needs
 
-put-requires-2 : tie.Need-put-requires-2
-put-requires-2 c κs =
+put-number-requires-2 : tie.Need-put-number-requires-2
+put-number-requires-2 c κs =
     let p = c .before .before .before in
     let n = p .before .before in
     let a = n .before .before .args in
-    omega (arith, here n, ap length (p .put .ensures), length-sets (a .buf .now) (a .o) (le 4 (a .q)))
+    omega (arith, here n, ap length (p .put-number .ensures), length-sets (a .buf .now) (a .o) (le 4 (a .q)))
 
 -- a word has 64 members at most
 few : (c : tie.Start) → ones (c .args .x) ≤ 64
@@ -55,9 +55,9 @@ returns-2 c =
     let n = p1 .before .before in
     let s = n .before .before in
     let a = s .args in
-    entered-one (n .if1 .left) (omega (arith, s .fits .x)) (p2 .put2 .ensures ∙ ap (λ (x : List ℕ). sets x (a .o + 4) (le 8 (a .x))) (p1 .put .ensures))
+    entered-one (n .if1 .left) (omega (arith, s .fits .x)) (p2 .put-number2 .ensures ∙ ap (λ (x : List ℕ). sets x (a .o + 4) (le 8 (a .x))) (p1 .put-number .ensures))
 
 pub put-entry-spec : {M : Type 1} → statement M
 put-entry-spec =
     tie.close
-    (tie.spec returns put-requires add-put put-requires-2 cast-sum add-sum add-at same-length returns-2)
+    (tie.spec returns put-number-requires add-put-number put-number-requires-2 cast-sum add-sum add-at same-length returns-2)

@@ -2,12 +2,13 @@
 use Prim.Native.Nat.{_+_, _-_, _*_}
 use native.Mathlib.Omega.{arith}
 use borrow.Author.Needs.{needs}
+use Rattle.map_write.specs.Steps.{draftAt}
 use Rattle.map_write.proofs.Entries.{Entering, entering-start, entering-room, entering-turn, entering-end, entered-long}
 use Rattle.map_write.proofs.put_fours.Statement.{statement}
 use Rattle.map_write.proofs.put_fours.Tie as tie
 
 abbrev Inv-loop : tie.InvT-loop
-Inv-loop layer fours buf₀ members₀ o₀ k₀ buf members o k = Entering layer 0 (4 * fours) 16 0 buf₀ (4 * k) o members buf
+Inv-loop layer fours buf₀ members₀ o₀ k₀ buf members o k = Entering layer 0 (4 * fours) (draftAt 16 0 buf₀) (4 * k) (draftAt o members buf)
 
 abbrev μ-loop : tie.MeasureT-loop
 μ-loop layer fours buf₀ members₀ o₀ k₀ buf members o k = fours - k

@@ -4,11 +4,11 @@ use native.Mathlib.Omega.{arith}
 use borrow.Author.Needs.{needs}
 use Rattle.store.specs.Layout.{StoreOf}
 use Rattle.store.specs.Word.{Words64}
-use Rattle.store.proofs.Ends.{some-store, no-store}
-use Rattle.map_format.specs.Steps.{ended}
-use Rattle.map_write.specs.Map.{wordsIn}
+use Rattle.store.proofs.Ends.{some-store, no-store, store-small, Lent0, lent0}
+use Rattle.map_format.specs.Steps.{withLast}
+use Rattle.map_write.specs.Map.{toldWords}
 use Rattle.map_write.proofs.Answers.{write-2, write-8, write-room, write-done}
-use Rattle.map_write.proofs.Layer.{lent, fits, words-in, lent-layer, words-are}
+use Rattle.map_write.proofs.Layer.{lent, some-lent, fits, words-are}
 use Rattle.map_write.proofs.write.Statement.{statement}
 use Rattle.map_write.proofs.write.Tie as tie
 
@@ -28,54 +28,59 @@ store-here c = some-store (c .before .before .before .before .args .store .now) 
 small : (c : tie.Else1) → Words64 (c .before .before .before .before .args .store .now)
 small c x = omega (arith, c .before .before .before .shared-slice-known .given x)
 
-add-layer : tie.Need-add-layer
-add-layer c = omega (arith, store-here c .most)
+start-requires : tie.Need-start-requires
+start-requires c κs = search needs
 
-sub-layer : tie.Need-sub-layer
-sub-layer c = words-in (store-here c)
+-- layer 0 is lent as the store's end
+lent-here : (c : tie.After-start) → let e = c .before in Lent0 (e .before .capacity .result) (e .before .before .before .before .args .store .now) (c .start .result)
+lent-here c = lent0 (store-here (c .before)) (c .start .ensures)
 
 mul-layer : tie.Need-mul-layer
-mul-layer c = search needs
+mul-layer c = omega (arith, lent-here c .inside, store-small (store-here (c .before)))
 
-sub-layer-2 : tie.Need-sub-layer-2
-sub-layer-2 c = search needs
+sub-layer : tie.Need-sub-layer
+sub-layer c = lent-here c .inside
 
 part-layer-start : tie.Need-part-layer-start
-part-layer-start c = search needs
+part-layer-start c = lent-here c .inside
 
 part-layer-end : tie.Need-part-layer-end
 part-layer-end c = search needs
 
 sub-kept-word : tie.Need-sub-kept-word
-sub-kept-word c = search needs
+sub-kept-word c = let a = c .before in some-lent (store-here (a .before)) (lent-here a)
 
 kept-word-requires : tie.Need-kept-word-requires
 kept-word-requires c κs = search needs
 
-has-room-requires : tie.Need-has-room-requires
-has-room-requires c κs = search needs
+map-fits-requires : tie.Need-map-fits-requires
+map-fits-requires c κs = search needs
 
 -- the words that the code works on are those of the definition
 words-here : (c : tie.After-kept-word)
-    → let e = c .before .before in
-    let N = e .before .capacity .result in
-    let s = e .before .before .before .before .args .store .now in
-    ended (lent N s) (c .kept-word .result) ≡ wordsIn N s
-words-here c = let e = c .before .before in words-are (store-here e) (small e) (c .kept-word .ensures)
+    → let a = c .before .before in
+    let y = a .before .before in
+    let s = y .before .before .before .args .store .now in
+    withLast (lent s (a .start .result)) (c .kept-word .result) ≡ toldWords (y .capacity .result) s
+words-here c =
+    let a = c .before .before in
+    words-are (store-here (a .before)) (lent-here a) (small (a .before)) (c .kept-word .ensures)
 
 returns-2 : tie.Need-returns-2
 returns-2 c =
     let r = c .before in
-    let e = r .before .before .before in
-    write-8 (store-here e) (e .before .before .before .before .args .buf .now) (words-here (r .before)) (r .has-room .ensures) (c .if2 .taken)
+    let e = r .before .before .before .before in
+    write-8 (store-here e) (e .before .before .before .before .args .buf .now) (words-here (r .before)) (r .map-fits .ensures) (c .if2 .taken)
 
 put-map-requires : tie.Need-put-map-requires
 put-map-requires c κs =
     let f = c .before in
     let r = f .before in
-    let e = r .before .before .before in
+    let a = r .before .before .before in
+    let e = a .before in
     let z = store-here e in
-    fits (lent-layer z) (r .before .kept-word .result) (write-room z (e .before .before .before .before .args .buf .now) (words-here (r .before)) (r .has-room .ensures) (f .if2 .left))
+    fits z (lent-here a) (r .before .kept-word .result)
+    (write-room z (e .before .before .before .before .args .buf .now) (words-here (r .before)) (r .map-fits .ensures) (f .if2 .left))
 
 same-length : tie.Need-same-length
 same-length c = search needs
@@ -85,8 +90,8 @@ returns-3 c =
     let p = c .before .before in
     let f = p .before .before in
     let r = f .before in
-    let e = r .before .before .before in
-    write-done (store-here e) (e .before .before .before .before .args .buf .now) (words-here (r .before)) (r .has-room .ensures) (f .if2 .left) (p .put-map .ensures)
+    let e = r .before .before .before .before in
+    write-done (store-here e) (e .before .before .before .before .args .buf .now) (words-here (r .before)) (r .map-fits .ensures) (f .if2 .left) (p .put-map .ensures)
 
 pub write-spec : {M : Type 1} → statement M
 write-spec =
@@ -94,15 +99,14 @@ write-spec =
     (tie.spec
     capacity-requires
     returns
-    add-layer
-    sub-layer
+    start-requires
     mul-layer
-    sub-layer-2
+    sub-layer
     part-layer-start
     part-layer-end
     sub-kept-word
     kept-word-requires
-    has-room-requires
+    map-fits-requires
     returns-2
     put-map-requires
     same-length

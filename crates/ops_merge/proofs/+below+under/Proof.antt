@@ -13,14 +13,15 @@ use Rattle.util.proofs.with_bit.Reads as with-bit-reads
 use Rattle.store.proofs.end.Reads as end-reads
 use Rattle.store.proofs.get.Reads as get-reads
 use Rattle.store.proofs.put.Reads as put-reads
+use Rattle.store.proofs.start.Reads as start-reads
 use Rattle.ops_word.proofs.moving.Reads as moving-reads
 use Rattle.ops_group.proofs.Loops.{taken-off, less-left}
-use Rattle.ops_merge.specs.Tree.{Ask, Level}
+use Rattle.ops_merge.specs.Tree.{MergeAt, Level}
 use Rattle.ops_merge.proofs.+below+under.{statement}
 use Rattle.ops_merge.proofs.+below+under.Lts-below as lts
 use Rattle.ops_merge.proofs.+below+under.Lts-under as under-lts
 use Rattle.ops_merge.proofs.+below+under.Tie.{close}
-use Rattle.ops_merge.proofs.Steps.{top-is, level-start, level-end, small-ask, ask-child, inside, ordered, near, inside-both, level-turn, ask-zero, level-zero}
+use Rattle.ops_merge.proofs.Steps.{level-start, level-end, small-ask, ask-child, part-inside, ordered, near, inside-both, level-turn, ask-zero, level-zero}
 use Rattle.ops_merge.proofs.below.Kinds as below-kinds
 use Rattle.ops_merge.proofs.below.Reads as below
 use Rattle.ops_merge.proofs.leaves.Reads as leaves-reads
@@ -55,6 +56,8 @@ abbrev μ-loop : lts.MeasureT-loop
 -- what is told of the functions that are called
 abbrev B : ℕ → lts.Claims
 B t = (
+  start-reads.Asked,
+  start-reads.Learnt,
   end-reads.Asked,
   end-reads.Learnt,
   get-reads.Asked,
@@ -102,14 +105,11 @@ below-returns t c = c .before .before .below .ensures
 
 -- ---- `below`
 
-add-end : (t : ℕ) → lts.Need-add-end (B t) (At t) below.Post Inv-loop μ-loop
-add-end t c = let s = c .before .before in omega (arith, s .pre .1 .1 .known, top-is (s .args .n))
+start-requires : (t : ℕ) → lts.Need-start-requires (B t) (At t) below.Post Inv-loop μ-loop
+start-requires t c κs = search needs
 
 end-requires : (t : ℕ) → lts.Need-end-requires (B t) (At t) below.Post Inv-loop μ-loop
 end-requires t c κs = search needs
-
-end-requires-2 : (t : ℕ) → lts.Need-end-requires-2 (B t) (At t) below.Post Inv-loop μ-loop
-end-requires-2 t c κs = search needs
 
 loop-holds : (t : ℕ) → lts.Need-loop-holds (B t) (At t) below.Post Inv-loop μ-loop
 loop-holds t c = let s = c .before .before .before .before in level-start _ _ _ _ _ _ _ _ (s .fits .m .fits)
@@ -119,7 +119,7 @@ loop-holds t c = let s = c .before .before .before .before in level-start _ _ _ 
 -- what was asked
 ask : (t : ℕ) (c : lts.In-loop (B t) (At t) below.Post Inv-loop μ-loop)
     → let a = c .before .before .before .before .before .before .args in
-    Ask (a .store .now) (a .other .now) (a .n) (a .k) (a .j)
+    MergeAt (a .store .now) (a .other .now) (a .n) (a .k) (a .j)
 ask t c = c .before .before .before .before .before .before .pre .1 .1
 
 -- the layer is above 0
@@ -131,20 +131,20 @@ low : (t : ℕ) (c : lts.In-loop (B t) (At t) below.Post Inv-loop μ-loop) → L
 low t c = lowest (c .before .loop .left) (c .before .loop .inv .few) (omega (arith, c .loop-test .taken))
 
 -- the layer lies inside the store as it is now
-part-in : (t : ℕ) (c : lts.In-loop (B t) (At t) below.Post Inv-loop μ-loop) → c .before .before .end2 .result ≤ length (c .before .loop .store)
-part-in t c = let h = c .before in inside (ask t c) (h .loop .inv) (h .before .before .end .ensures) (h .before .end2 .ensures)
+part-in : (t : ℕ) (c : lts.In-loop (B t) (At t) below.Post Inv-loop μ-loop) → c .before .before .end .result ≤ length (c .before .loop .store)
+part-in t c = let h = c .before in part-inside (ask t c) (h .loop .inv) (h .before .before .start .ensures) (h .before .end .ensures)
 
 part-in-other : (t : ℕ) (c : lts.In-loop (B t) (At t) below.Post Inv-loop μ-loop)
-    → c .before .before .end2 .result ≤ length (c .before .before .before .before .before .before .args .other .now)
+    → c .before .before .end .result ≤ length (c .before .before .before .before .before .before .args .other .now)
 part-in-other t c =
     let h = c .before in
-    inside-both (ask t c) (h .loop .inv) (h .before .before .end .ensures) (h .before .end2 .ensures) _ (ask t c .second)
+    inside-both (ask t c) (h .loop .inv) (h .before .before .start .ensures) (h .before .end .ensures) _ (ask t c .second)
 
-ordered-here : (t : ℕ) (c : lts.In-loop (B t) (At t) below.Post Inv-loop μ-loop) → c .before .before .before .end .result ≤ c .before .before .end2 .result
-ordered-here t c = let h = c .before in ordered (ask t c) (h .loop .inv) (h .before .before .end .ensures) (h .before .end2 .ensures)
+ordered-here : (t : ℕ) (c : lts.In-loop (B t) (At t) below.Post Inv-loop μ-loop) → c .before .before .before .start .result ≤ c .before .before .end .result
+ordered-here t c = let h = c .before in ordered (ask t c) (h .loop .inv) (h .before .before .start .ensures) (h .before .end .ensures)
 
-near-here : (t : ℕ) (c : lts.In-loop (B t) (At t) below.Post Inv-loop μ-loop) → c .before .before .end2 .result < 2 ^ 32
-near-here t c = let h = c .before in near (ask t c) (h .loop .inv) (h .before .before .end .ensures) (h .before .end2 .ensures)
+near-here : (t : ℕ) (c : lts.In-loop (B t) (At t) below.Post Inv-loop μ-loop) → c .before .before .end .result < 2 ^ 32
+near-here t c = let h = c .before in near (ask t c) (h .loop .inv) (h .before .before .start .ensures) (h .before .end .ensures)
 
 cast-t : (t : ℕ) → lts.Need-cast-t (B t) (At t) below.Post Inv-loop μ-loop
 cast-t t c = record { fits = omega (arith, trailing-le 64 (c .before .loop .left)) }
@@ -230,7 +230,7 @@ loop-again t c =
     let i = x .before .before .before in
     let h = i .before in
     let e = h .before in
-    level-turn (ask t i) (h .loop .inv) (e .before .end .ensures) (e .end2 .ensures) (λ z. omega (arith, above t i)) (low t i .inside) (low t i .on) refl
+    level-turn (ask t i) (h .loop .inv) (e .before .start .ensures) (e .end .ensures) (λ z. omega (arith, above t i)) (low t i .inside) (low t i .on) refl
     (x .get .ensures) (v .moving .ensures) (r .under .ensures) (p .put .ensures) (w .with-bit .ensures)
     (taken-off (h .loop .inv .few) (low t i .inside) (low t i .on) (c .drop-lowest .ensures))
 
@@ -244,9 +244,8 @@ pub +below+under-spec : {M : Type 1} → statement M
 +below+under-spec =
     close μ-below μ-under
     (λ t. lts.spec (B t) (At t) below.Post Inv-loop μ-loop
-    (add-end t)
+    (start-requires t)
     (end-requires t)
-    (end-requires-2 t)
     (loop-holds t)
     (cast-t t)
     (mul-c t)

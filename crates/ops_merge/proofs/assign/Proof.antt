@@ -3,7 +3,8 @@ use native.Mathlib.Omega.{arith}
 use borrow.Author.Needs.{needs}
 use Rattle.store.specs.Layout.{StoreOf}
 use Rattle.store.proofs.Ends.{some-store, no-store}
-use Rattle.ops_merge.proofs.Answers.{first-2, second-2, differ-5, ask-top, all-done}
+use Rattle.store.proofs.TopLayer.{top-low}
+use Rattle.ops_merge.proofs.Answers.{first-refused, second-refused, caps-refused, ask-top, merge-done}
 use Rattle.ops_merge.proofs.assign.Statement.{statement}
 use Rattle.ops_merge.proofs.assign.Tie as tie
 
@@ -17,7 +18,7 @@ returns : tie.Need-returns
 returns c =
     let y = c .before in
     let a = y .before .before .before .before .args in
-    first-2 (a .store .now) (a .other .now) (no-store (a .store .now) (y .capacity .ensures) (c .if1 .taken))
+    first-refused (a .store .now) (a .other .now) (no-store (a .store .now) (y .capacity .ensures) (c .if1 .taken))
 
 capacity-requires-2 : tie.Need-capacity-requires-2
 capacity-requires-2 c κs = search needs
@@ -36,7 +37,7 @@ returns-2 : tie.Need-returns-2
 returns-2 c =
     let y = c .before in
     let a = y .before .before .before .before .before .before .args in
-    second-2 (a .store .now) (a .other .now) (first (y .before)) (no-store (a .other .now) (y .capacity2 .ensures) (c .if2 .taken))
+    second-refused (a .store .now) (a .other .now) (first (y .before)) (no-store (a .other .now) (y .capacity2 .ensures) (c .if2 .taken))
 
 same-length-3 : tie.Need-same-length-3
 same-length-3 c = search needs
@@ -45,10 +46,16 @@ returns-3 : tie.Need-returns-3
 returns-3 c =
     let e = c .before in
     let a = e .before .before .before .before .before .before .before .args in
-    differ-5 (a .store .now) (a .other .now) (first (e .before .before)) (second e) (c .if3 .taken)
+    caps-refused (a .store .now) (a .other .now) (first (e .before .before)) (second e) (c .if3 .taken)
+
+top-requires : tie.Need-top-requires
+top-requires c κs = search needs
 
 below-requires : tie.Need-below-requires
-below-requires c κs = let n = c .before in (omega arith, ask-top (first (n .before .before .before)) (second (n .before)) (n .if3 .left))
+below-requires c κs =
+    let n = c .before .before in
+    let f = n .before .before .before in
+    (omega (arith, c .top .ensures, top-low (f .before .capacity .result)), ask-top (first f) (second (n .before)) (n .if3 .left) (c .top .ensures))
 
 same-length-4 : tie.Need-same-length-4
 same-length-4 c = c .before .before .below .ensures .long
@@ -56,11 +63,11 @@ same-length-4 c = c .before .before .below .ensures .long
 returns-4 : tie.Need-returns-4
 returns-4 c =
     let b = c .before .before in
-    let n = b .before .before in
+    let n = b .before .before .before in
     let e = n .before in
     let k = e .before .before .before .before .before in
-    all-done (first (e .before .before)) (second e) (n .if3 .left) (λ x. k .before .slice-known .given x .fits) (λ x. k .shared-slice-known .given x .fits)
-    (λ x. c .slice-known2 .given x .fits) (b .below .ensures)
+    merge-done {op = k .before .before .args .op} (first (e .before .before)) (second e) (n .if3 .left) (b .before .top .ensures)
+    (λ x. k .before .slice-known .given x .fits) (λ x. k .shared-slice-known .given x .fits) (λ x. c .slice-known2 .given x .fits) (b .below .ensures)
 
 pub assign-spec : {M : Type 1} → statement M
 assign-spec =
@@ -74,6 +81,7 @@ assign-spec =
     returns-2
     same-length-3
     returns-3
+    top-requires
     below-requires
     same-length-4
     returns-4)

@@ -6,23 +6,23 @@ use native.Mathlib.Omega.{arith}
 use borrow.Author.Needs.{needs}
 use borrow.Rule.Slice.PartMut.{midOf}
 use lib.ListN.{length}
-use Rattle.ops_group.specs.Group.{named, marked}
+use Rattle.ops_group.specs.Group.{mergeNamed, markNamed}
 use Rattle.ops_merge.proofs.Leaf.{level-leaves, level-short}
-use Rattle.ops_merge.proofs.Steps.{small-ask, start-small, spot-here, same-long}
+use Rattle.ops_merge.proofs.Steps.{small-ask, start-near, spot-here, both-long}
 use Rattle.ops_merge.proofs.leaves.Statement.{statement}
 use Rattle.ops_merge.proofs.leaves.Tie as tie
 
-end-requires : tie.Need-end-requires
-end-requires c κs = search needs
+start-requires : tie.Need-start-requires
+start-requires c κs = search needs
 
 mul-a : tie.Need-mul-a
-mul-a c = omega arith
+mul-a c = omega (arith, small-ask (c .before .before .before .pre))
 
 add-a : tie.Need-add-a
-add-a c = let s = c .before .before .before in omega (arith, small-ask (s .pre), start-small (s .pre) (c .end .ensures))
+add-a c = let s = c .before .before .before in omega (arith, small-ask (s .pre), start-near (s .pre) (c .start .ensures))
 
 add-e : tie.Need-add-e
-add-e c = let s = c .before .before .before in omega (arith, small-ask (s .pre), start-small (s .pre) (c .end .ensures))
+add-e c = let s = c .before .before .before in omega (arith, small-ask (s .pre), start-near (s .pre) (c .start .ensures))
 
 mul-group : tie.Need-mul-group
 mul-group c = omega arith
@@ -60,9 +60,9 @@ returns c =
     let f = g .before .before .before in
     let d = f .before in
     let s = d .before .before .before in
-    let a : ℕ = d .end .result + s .args .j * 64 in
-    level-leaves {a = a} {e = a + 64} (s .pre .first) (spot-here (s .pre) (d .end .ensures) (omega (arith, f .if1 .taken)) (omega (arith, f .if1 .taken))) (s .args .op) (s .args .other .now) (s .args .w)
-    (s .args .m) (s .fits .m .fits) (same-long (s .pre)) (g .group .ensures .0) (g .group .ensures .1)
+    let a : ℕ = d .start .result + s .args .j * 64 in
+    level-leaves {a = a} {e = a + 64} (s .pre .first) (spot-here (s .pre) (d .start .ensures) (omega (arith, f .if1 .taken)) (omega (arith, f .if1 .taken))) (s .args .op) (s .args .other .now) (s .args .w)
+    (s .args .m) (s .fits .m .fits) (both-long (s .pre)) (g .group .ensures .0) (g .group .ensures .1)
 
 least-requires : tie.Need-least-requires
 least-requires c κs = search needs
@@ -106,17 +106,17 @@ returns-2 c =
     let s = d .before .before .before in
     let a = s .args in
     let b : ℕ = l .least .result in
-    let q = same-long (s .pre) in
-    let after : ℕ → List ℕ = λ k. named (a .op) (a .m) 0 (midOf b (length (a .store .now) - b) (a .store .now)) (midOf b (k - b) (a .other .now)) in
-    level-short (s .pre .first) (spot-here (s .pre) (d .end .ensures) (l .least .ensures) (omega (arith, f .if1 .left, l .least .ensures))) (a .op) (a .other .now) (a .w)
+    let q = both-long (s .pre) in
+    let after : ℕ → List ℕ = λ k. mergeNamed (a .op) (a .m) 0 (midOf b (length (a .store .now) - b) (a .store .now)) (midOf b (k - b) (a .other .now)) in
+    level-short (s .pre .first) (spot-here (s .pre) (d .start .ensures) (l .least .ensures) (omega (arith, f .if1 .left, l .least .ensures))) (a .op) (a .other .now) (a .w)
     (a .m) (s .fits .m .fits) q (omega (arith, f .if1 .left, l .least .ensures)) (subst (λ (k : ℕ). g .one-by-one .last .0 ≡ after k) q (g .one-by-one .ensures .0))
-    (subst (λ (k : ℕ). g .one-by-one .result ≡ marked (a .m) (after k) (a .w)) q (g .one-by-one .ensures .1))
+    (subst (λ (k : ℕ). g .one-by-one .result ≡ markNamed (a .m) (after k) (a .w)) q (g .one-by-one .ensures .1))
 
 pub leaves-spec : {M : Type 1} → statement M
 leaves-spec =
     tie.close
     (tie.spec
-    end-requires
+    start-requires
     mul-a
     add-a
     add-e

@@ -1,62 +1,72 @@
--- `mark` meets its contract: each edit makes the layers written one more. Assumes nothing.
+-- `mark` meets its contract: each turn writes one layer more. Assumes nothing.
 use mathlib.Core.Bool.{true}
-use mathlib.Core.Path.{_≡_}
+use mathlib.Core.List.{List}
+use mathlib.Core.Path.{_≡_, refl}
+use Prim.Native.Nat.{ℕ, suc, _-_, _≤_}
+use native.Mathlib.Numerals.{add-one}
 use native.Mathlib.Omega.{arith}
 use borrow.Author.Needs.{needs}
+use lib.ListN.{length}
 use Rattle.store.specs.Layout.{top}
-use Rattle.set_edit.specs.Edit.{edits}
-use Rattle.set_edit.proofs.Steps.{placed, one-more, none-yet}
+use Rattle.store.proofs.TopLayer.{top-high}
+use Rattle.set_edit.specs.Steps.{Begun}
+use Rattle.set_edit.proofs.Steps.{placed, one-more, marked}
 use Rattle.set_edit.proofs.mark.Statement.{statement}
 use Rattle.set_edit.proofs.mark.Tie as tie
 
-edit-requires : tie.Need-edit-requires
-edit-requires c κs = search needs
+abbrev Inv-loop : tie.InvT-loop
+Inv-loop store₀ n id t k₀ store k =
+    (k ≤ suc t) × (t ≡ top n) × (length store ≡ length store₀) × ((s : List ℕ) → Begun true s n id 1 store₀ → Begun true s n id k store)
 
--- after each edit
-one : (c : tie.After-edit) → let a = c .before .before .before .args in c .edit .last .0 ≡ edits true (a .n) (a .store .now) (a .id) 1
-one c = one-more true (c .before .before .before .pre) 0 _ _ _ (none-yet true (c .before .before .before .pre)) (c .edit .ensures)
+abbrev μ-loop : tie.MeasureT-loop
+μ-loop store₀ n id t k₀ store k = suc t - k
 
-edit-requires-2 : tie.Need-edit-requires-2
-unfolding top
-edit-requires-2 c κs =
-    let e = c .before .before .before in
-    placed true (e .before .before .before .pre) 1 _ (omega arith) (one e)
+top-requires : tie.Need-top-requires Inv-loop μ-loop
+top-requires c κs = search needs
 
-two : (c : tie.After-edit2) →
-    let a = c .before .before .before .before .before .before .before .args in
-    c .edit2 .last .0 ≡ edits true (a .n) (a .store .now) (a .id) 2
-two c = let e = c .before .before .before .before in one-more true (e .before .before .before .pre) 1 _ _ _ (one e) (c .edit2 .ensures)
+loop-holds : tie.Need-loop-holds Inv-loop μ-loop
+loop-holds c = (omega arith, c .top .ensures, refl, λ s g. g)
 
-edit-requires-3 : tie.Need-edit-requires-3
-unfolding top
-edit-requires-3 c κs =
-    let e = c .before .before .before in
-    placed true (e .before .before .before .before .before .before .before .pre) 2 _ (omega arith) (two e)
+edit-requires : tie.Need-edit-requires Inv-loop μ-loop
+edit-requires c κs =
+    let l = c .before .before in
+    let p = l .before .before .before .pre in
+    placed true (l .loop .inv .3 (p .0) (p .1)) (omega (arith, l .loop .inv .1))
 
-three : (c : tie.After-edit3) →
-    let a = c .before .before .before .before .before .before .before .before .before .before .before .args in
-    c .edit3 .last .0 ≡ edits true (a .n) (a .store .now) (a .id) 3
-three c =
-    let e = c .before .before .before .before in
-    one-more true (e .before .before .before .before .before .before .before .pre) 2 _ _ _ (two e) (c .edit3 .ensures)
+add-k : tie.Need-add-k Inv-loop μ-loop
+add-k c = let l = c .before .before .before .before .before in omega (arith, l .loop .inv .1, top-high (l .before .before .before .args .n))
 
-edit-requires-4 : tie.Need-edit-requires-4
-unfolding top
-edit-requires-4 c κs =
-    let e = c .before .before .before in
-    placed true (e .before .before .before .before .before .before .before .before .before .before .before .pre) 3 _ (omega arith) (three e)
+loop-less : tie.Need-loop-less Inv-loop μ-loop
+loop-less c = omega arith
 
-same-length : tie.Need-same-length
+loop-again : tie.Need-loop-again Inv-loop μ-loop
+loop-again c =
+    let e = c .before .before in
+    let l = e .before .before .before in (
+      omega arith,
+      l .loop .inv .1,
+      search needs,
+      λ s g. rw (add-one (l .loop .k)) (one-more true (l .loop .inv .3 s g) (omega (arith, l .loop .inv .1)) (e .edit .ensures)),
+    )
+
+same-length : tie.Need-same-length Inv-loop μ-loop
 same-length c = search needs
 
-returns : tie.Need-returns
-unfolding top
+returns : tie.Need-returns Inv-loop μ-loop
 returns c =
-    let l = c .before .before in
-    let e = l .before .before .before .before in
-    one-more true (e .before .before .before .before .before .before .before .before .before .before .before .pre) 3 _ _ _ (three e) (l .edit4 .ensures)
+    λ s g. (let l = c .before in marked (l .loop .inv .3 s g) (omega (arith, l .loop .inv .1)))
 
 pub mark-spec : {M : Type 1} → statement M
 mark-spec =
     tie.close
-    (tie.spec edit-requires edit-requires-2 edit-requires-3 edit-requires-4 same-length returns)
+    (tie.spec
+    Inv-loop
+    μ-loop
+    top-requires
+    loop-holds
+    edit-requires
+    add-k
+    loop-less
+    loop-again
+    same-length
+    returns)

@@ -1,121 +1,91 @@
--- `unmark` meets its contract: it climbs while words become 0. Assumes nothing.
-use mathlib.Core.Path.{refl}
+-- `unmark` meets its contract: each turn clears one layer more, until a word keeps a bit. Assumes nothing.
+use mathlib.Core.Bool.{false}
+use mathlib.Core.List.{List}
+use mathlib.Core.Path.{_≡_, refl}
+use Prim.Native.Nat.{ℕ, suc, _-_, _≤_}
+use native.Mathlib.Numerals.{add-one}
 use native.Mathlib.Omega.{arith}
 use borrow.Author.Needs.{needs}
+use lib.ListN.{length}
 use Rattle.store.specs.Layout.{top}
-use Rattle.set_edit.proofs.Steps.{Climbing, climb-none, climb-placed, climb-more, climb-ends, climb-all}
+use Rattle.store.proofs.TopLayer.{top-high}
+use Rattle.set_edit.specs.Steps.{Climbing}
+use Rattle.set_edit.proofs.Steps.{placed, climb-top-end, climb-more, climb-ends}
 use Rattle.set_edit.proofs.unmark.Statement.{statement}
 use Rattle.set_edit.proofs.unmark.Tie as tie
 
-edit-requires : tie.Need-edit-requires
-edit-requires c κs = search needs
+abbrev Inv-loop : tie.InvT-loop
+Inv-loop store₀ n id t k₀ store k =
+    (k ≤ suc t) × (t ≡ top n) × (length store ≡ length store₀) × ((s : List ℕ) → Climbing s n id 1 store₀ → Climbing s n id k store)
 
-same-length : tie.Need-same-length
+abbrev μ-loop : tie.MeasureT-loop
+μ-loop store₀ n id t k₀ store k = suc t - k
+
+top-requires : tie.Need-top-requires Inv-loop μ-loop
+top-requires c κs = search needs
+
+loop-holds : tie.Need-loop-holds Inv-loop μ-loop
+loop-holds c = (omega arith, c .top .ensures, refl, λ s g. g)
+
+edit-requires : tie.Need-edit-requires Inv-loop μ-loop
+edit-requires c κs =
+    let l = c .before .before in
+    let p = l .before .before .before .pre in
+    placed false (l .loop .inv .3 (p .0) (p .1) .begun) (omega (arith, l .loop .inv .1))
+
+add-result : tie.Need-add-result Inv-loop μ-loop
+add-result c =
+    let l = c .before .before .before .before .before .before in
+    omega (arith, l .loop .inv .1, top-high (l .before .before .before .args .n))
+
+same-length : tie.Need-same-length Inv-loop μ-loop
 same-length c = search needs
 
-returns : tie.Need-returns
-unfolding top
+returns : tie.Need-returns Inv-loop μ-loop
 returns c =
-    let e = c .before .before .before in
-    let s = e .before .before .before in
-    climb-ends (s .pre) 0 (omega arith) (climb-none (s .pre)) (e .edit .ensures) (c .if1 .taken)
+    λ s g.
+    (let e = c .before .before .before in
+    let l = e .before .before .before in
+    rw (add-one (l .loop .k)) (climb-ends (l .loop .inv .3 s g) (omega (arith, l .loop .inv .1)) (e .edit .ensures) (c .if1 .taken)))
 
--- layer 0 kept no bit
-one : (c : tie.Else1) →
-    let e = c .before .before .before in
-    let s = e .before .before .before in
-    Climbing (s .args .store .now) (s .args .n) (s .args .id) 1 (e .edit .last .0)
-unfolding top
-one c =
-    let e = c .before .before .before in
-    let s = e .before .before .before in
-    climb-more (s .pre) 0 (omega arith) (climb-none (s .pre)) (e .edit .ensures) (c .if1 .left)
+add-k : tie.Need-add-k Inv-loop μ-loop
+add-k c =
+    let l = c .before .before .before .before .before .before in
+    omega (arith, l .loop .inv .1, top-high (l .before .before .before .args .n))
 
-edit-requires-2 : tie.Need-edit-requires-2
-unfolding top
-edit-requires-2 c κs = let o = c .before in climb-placed (o .before .before .before .before .before .before .pre) 1 (omega arith) (one o)
+loop-less : tie.Need-loop-less Inv-loop μ-loop
+loop-less c = omega arith
 
-same-length-2 : tie.Need-same-length-2
+loop-again : tie.Need-loop-again Inv-loop μ-loop
+loop-again c =
+    let e = c .before .before .before in
+    let l = e .before .before .before in (
+      omega arith,
+      l .loop .inv .1,
+      search needs,
+      λ s g. rw (add-one (l .loop .k)) (climb-more (l .loop .inv .3 s g) (omega (arith, l .loop .inv .1)) (e .edit .ensures) (c .if1 .left)),
+    )
+
+same-length-2 : tie.Need-same-length-2 Inv-loop μ-loop
 same-length-2 c = search needs
 
-returns-2 : tie.Need-returns-2
-unfolding top
-returns-2 c =
-    let e = c .before .before .before in
-    let o = e .before .before in
-    climb-ends (o .before .before .before .before .before .before .pre) 1 (omega arith) (one o) (e .edit2 .ensures) (c .if2 .taken)
-
--- nor layer 1
-two : (c : tie.Else2) →
-    let e = c .before .before .before in
-    let s = e .before .before .before .before .before .before .before .before in
-    Climbing (s .args .store .now) (s .args .n) (s .args .id) 2 (e .edit2 .last .0)
-unfolding top
-two c =
-    let e = c .before .before .before in
-    let o = e .before .before in
-    climb-more (o .before .before .before .before .before .before .pre) 1 (omega arith) (one o) (e .edit2 .ensures) (c .if2 .left)
-
-edit-requires-3 : tie.Need-edit-requires-3
-unfolding top
-edit-requires-3 c κs =
-    let o = c .before in
-    climb-placed (o .before .before .before .before .before .before .before .before .before .before .before .pre) 2 (omega arith) (two o)
-
-same-length-3 : tie.Need-same-length-3
-same-length-3 c = search needs
-
-returns-3 : tie.Need-returns-3
-unfolding top
-returns-3 c =
-    let e = c .before .before .before in
-    let o = e .before .before in
-    climb-ends (o .before .before .before .before .before .before .before .before .before .before .before .pre) 2 (omega arith) (two o)
-    (e .edit3 .ensures) (c .if3 .taken)
-
--- nor layer 2
-three : (c : tie.Else3) →
-    let e = c .before .before .before in
-    let s = e .before .before .before .before .before .before .before .before .before .before .before .before .before in
-    Climbing (s .args .store .now) (s .args .n) (s .args .id) 3 (e .edit3 .last .0)
-unfolding top
-three c =
-    let e = c .before .before .before in
-    let o = e .before .before in
-    climb-more (o .before .before .before .before .before .before .before .before .before .before .before .pre) 2 (omega arith) (two o)
-    (e .edit3 .ensures) (c .if3 .left)
-
-edit-requires-4 : tie.Need-edit-requires-4
-unfolding top
-edit-requires-4 c κs =
-    let o = c .before in
-    let s = o .before .before .before .before .before .before .before .before .before .before .before .before .before .before .before .before in
-    climb-placed (s .pre) 3 (omega arith) (three o)
-
-same-length-4 : tie.Need-same-length-4
-same-length-4 c = search needs
-
-returns-4 : tie.Need-returns-4
-unfolding top
-returns-4 c =
-    let e = c .before .before in
-    let o = e .before .before in
-    let s = o .before .before .before .before .before .before .before .before .before .before .before .before .before .before .before .before in
-    climb-all (s .pre) 3 (omega arith) (three o) (e .edit4 .ensures) refl
+returns-2 : tie.Need-returns-2 Inv-loop μ-loop
+returns-2 c = λ s g. (let l = c .before in climb-top-end (l .loop .inv .3 s g) (omega (arith, l .loop .inv .1)))
 
 pub unmark-spec : {M : Type 1} → statement M
 unmark-spec =
     tie.close
     (tie.spec
+    Inv-loop
+    μ-loop
+    top-requires
+    loop-holds
     edit-requires
+    add-result
     same-length
     returns
-    edit-requires-2
+    add-k
+    loop-less
+    loop-again
     same-length-2
-    returns-2
-    edit-requires-3
-    same-length-3
-    returns-3
-    edit-requires-4
-    same-length-4
-    returns-4)
+    returns-2)

@@ -1,7 +1,7 @@
 -- `answer` meets its contract. Assumes nothing.
 use borrow.Author.Needs.{needs}
 use borrow.Author.Tests.{lt-ltb, le-ltb}
-use Rattle.set_free.specs.Steps.{answerOf}
+use Rattle.set_free.specs.Steps.{foundOf}
 use Rattle.set_free.proofs.answer.Statement.{statement}
 use Rattle.set_free.proofs.answer.Tie as tie
 
@@ -9,11 +9,11 @@ cast-i : tie.Need-cast-i
 cast-i c = search needs
 
 returns : tie.Need-returns
-unfolding answerOf
+unfolding foundOf
 returns c = rw (lt-ltb (c .before .args .id) (c .before .args .n) (c .if1 .taken))
 
 returns-2 : tie.Need-returns-2
-unfolding answerOf
+unfolding foundOf
 returns-2 c = rw (le-ltb (c .before .args .id) (c .before .args .n) (c .if1 .left))
 
 pub answer-spec : {M : Type 1} → statement M

@@ -2,8 +2,8 @@
 use native.Mathlib.Omega.{arith}
 use borrow.Author.Needs.{needs}
 use Rattle.store.specs.Layout.{StoreOf}
-use Rattle.store.proofs.Ends.{some-store, no-store}
-use Rattle.set_free.proofs.Lowest.{words-in, lent-small, answered, free-2}
+use Rattle.store.proofs.Ends.{some-store, no-store, lent0}
+use Rattle.set_free.proofs.Lowest.{lent-small, answered, free-2}
 use Rattle.set_free.proofs.first_free.Statement.{statement}
 use Rattle.set_free.proofs.first_free.Tie as tie
 
@@ -20,31 +20,31 @@ returns c =
 store-here : (c : tie.Else1) → StoreOf (c .before .capacity .result) (c .before .before .before .args .store .now)
 store-here c = some-store (c .before .before .before .args .store .now) (c .before .capacity .ensures) (c .if1 .left)
 
-add-a : tie.Need-add-a
-add-a c = omega (arith, store-here c .most)
-
-sub-a : tie.Need-sub-a
-sub-a c = words-in (store-here c)
+start-requires : tie.Need-start-requires
+start-requires c κs = search needs
 
 mul-search : tie.Need-mul-search
-mul-search c = search needs
+mul-search c = omega (arith, lent0 (store-here (c .before)) (c .start .ensures) .inside)
 
 sub-search : tie.Need-sub-search
-sub-search c = search needs
+sub-search c = lent0 (store-here (c .before)) (c .start .ensures) .inside
 
 part-search-start : tie.Need-part-search-start
-part-search-start c = search needs
+part-search-start c = omega (arith, lent0 (store-here (c .before)) (c .start .ensures) .inside)
 
 part-search-end : tie.Need-part-search-end
 part-search-end c = search needs
 
 search-requires : tie.Need-search-requires
-search-requires c κs = lent-small (store-here (c .before)) (omega arith)
+search-requires c κs =
+    let a = c .before in
+    lent-small (store-here (a .before)) (a .start .ensures) (omega arith)
 
 returns-2 : tie.Need-returns-2
 returns-2 c =
-    let d = c .before .before in
-    answered (store-here d) (λ i. d .before .before .shared-slice-known .given i .fits) (c .search .ensures)
+    let a = c .before .before in
+    let d = a .before in
+    answered (store-here d) (a .start .ensures) (λ i. d .before .before .shared-slice-known .given i .fits) (c .search .ensures)
 
 pub first-free-spec : {M : Type 1} → statement M
 first-free-spec =
@@ -52,8 +52,7 @@ first-free-spec =
     (tie.spec
     capacity-requires
     returns
-    add-a
-    sub-a
+    start-requires
     mul-search
     sub-search
     part-search-start

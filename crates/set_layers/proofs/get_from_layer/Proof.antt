@@ -5,7 +5,7 @@ use Prim.Native.Nat.{ℕ}
 use native.Mathlib.Omega.{arith}
 use borrow.Author.Needs.{needs}
 use lib.ListN.{getD}
-use Rattle.store.specs.Layout.{top, StoreOf}
+use Rattle.store.specs.Layout.{StoreOf}
 use Rattle.store.proofs.Ends.{some-store, no-store}
 use Rattle.set_layers.proofs.Answers.{word-2, word-4, word-is, word-top}
 use Rattle.set_layers.proofs.get_from_layer.Statement.{statement}
@@ -24,36 +24,40 @@ returns c =
 store-here : (c : tie.Else1) → StoreOf (c .before .capacity .result) (c .before .before .before .args .store .now)
 store-here c = some-store (c .before .before .before .args .store .now) (c .before .capacity .ensures) (c .if1 .left)
 
+top-requires : tie.Need-top-requires
+top-requires c κs = search needs
+
 returns-2 : tie.Need-returns-2
-unfolding top
 returns-2 c =
-    let a = c .before .before .before .before .args in
-    word-4 (store-here (c .before)) (a .layer) (a .idx) (omega arith)
+    let t = c .before in
+    let a = t .before .before .before .before .args in
+    word-4 (store-here (t .before)) (a .layer) (a .idx) (omega (arith, t .top .ensures))
+
+top-word-requires : tie.Need-top-word-requires
+top-word-requires c κs = search needs
+
+returns-3 : tie.Need-returns-3
+returns-3 c =
+    let t = c .before .before .before in
+    let a = t .before .before .before .before .args in
+    word-top (store-here (t .before)) (a .layer) (a .idx) _ (c .before .if3 .taken ∙ t .top .ensures) (c .top-word .ensures)
 
 part-requires : tie.Need-part-requires
-part-requires c κs = search needs
+part-requires c κs =
+    let t = c .before .before in
+    (store-here (t .before), omega (arith, t .top .ensures))
 
 get-requires : tie.Need-get-requires
 get-requires c κs = search needs
 
-returns-3 : tie.Need-returns-3
-unfolding top
-returns-3 c =
-    let t = c .before in
-    let e = t .before .before in
-    let a = e .before .before .before .before .args in
-    word-top (store-here (e .before)) (a .layer) (a .idx) _ (t .if3 .taken) (c .get .ensures ∙ ap (λ (l : List ℕ). getD l 0 0) (t .before .part .ensures .words))
-
-get-requires-2 : tie.Need-get-requires-2
-get-requires-2 c κs = search needs
-
 returns-4 : tie.Need-returns-4
-unfolding top
 returns-4 c =
-    let t = c .before in
-    let e = t .before .before in
-    let a = e .before .before .before .before .args in
-    word-is (store-here (e .before)) (a .layer) (a .idx) _ (omega (arith, t .if3 .left)) (c .get2 .ensures ∙ ap (λ (l : List ℕ). getD l (a .idx) 0) (t .before .part .ensures .words))
+    let p = c .before in
+    let e = p .before in
+    let t = e .before .before in
+    let a = t .before .before .before .before .args in
+    word-is (store-here (t .before)) (a .layer) (a .idx) _ (omega (arith, t .top .ensures, e .if3 .left))
+    (c .get .ensures ∙ ap (λ (l : List ℕ). getD l (a .idx) 0) (p .part .ensures .words))
 
 pub get-from-layer-spec : {M : Type 1} → statement M
 get-from-layer-spec =
@@ -61,9 +65,10 @@ get-from-layer-spec =
     (tie.spec
     capacity-requires
     returns
+    top-requires
     returns-2
+    top-word-requires
+    returns-3
     part-requires
     get-requires
-    returns-3
-    get-requires-2
     returns-4)

@@ -4,7 +4,7 @@ use native.Mathlib.Omega.{arith}
 use borrow.Author.Needs.{needs}
 use borrow.Author.Tests.{ltb-true}
 use Rattle.store.specs.Layout.{StoreOf}
-use Rattle.store.proofs.Ends.{some-store, no-store}
+use Rattle.store.proofs.Ends.{some-store, no-store, start-is}
 use Rattle.set_member.specs.Place.{Placed}
 use Rattle.set_member.proofs.Places.{is-nowhere, is-in, is-past}
 use Rattle.set_member.proofs.locate.Statement.{statement}
@@ -34,16 +34,21 @@ placed-here c =
     let h = c .before in
     record { store = store-here (h .before); below = ltb-true _ _ (sym (h .has-room .ensures) ∙ c .if2 .taken); layer = omega arith }
 
+start-requires : tie.Need-start-requires
+start-requires c κs = search needs
+
 word0-requires : tie.Need-word0-requires
-word0-requires c κs = placed-here c
+word0-requires c κs = placed-here (c .before)
 
 returns-2 : tie.Need-returns-2
 returns-2 c =
-    let h = c .before .before in
-    is-in _ _ (store-here (h .before)) (sym (h .has-room .ensures) ∙ c .before .if2 .taken) (c .word0 .ensures)
+    let a = c .before in
+    let h = a .before .before in
+    let z = store-here (h .before) in
+    is-in _ _ z (sym (h .has-room .ensures) ∙ a .before .if2 .taken) (a .start .ensures ∙ start-is z 0) (c .word0 .ensures)
 
 returns-3 : tie.Need-returns-3
 returns-3 c = let h = c .before in is-past _ _ (store-here (h .before)) (sym (h .has-room .ensures) ∙ c .if2 .left)
 
 pub locate-spec : {M : Type 1} → statement M
-locate-spec = tie.close (tie.spec capacity-requires returns has-room-requires word0-requires returns-2 returns-3)
+locate-spec = tie.close (tie.spec capacity-requires returns has-room-requires start-requires word0-requires returns-2 returns-3)

@@ -1,41 +1,33 @@
 -- `word0` meets its contract. Assumes nothing.
-use mathlib.Core.Path.{refl}
+use mathlib.Core.Path.{_∙_}
 use native.Mathlib.Omega.{arith}
 use borrow.Author.Needs.{needs}
-use Rattle.store.specs.Layout.{endOf}
-use Rattle.store.specs.Word.{anc}
-use Rattle.set_member.proofs.Spots.{Ranged, ranged, word-there}
+use Rattle.store.proofs.Ends.{start-is, IdWord, id-word}
 use Rattle.set_member.proofs.word0.Statement.{statement}
 use Rattle.set_member.proofs.word0.Tie as tie
 
-end-requires : tie.Need-end-requires
-end-requires c κs = search needs
+start-requires : tie.Need-start-requires
+start-requires c κs = search needs
 
-offset-requires : tie.Need-offset-requires
-offset-requires c κs = search needs
+id-word-requires : tie.Need-id-word-requires
+id-word-requires c κs = search needs
 
 -- where the word stands
-there : (c : tie.After-offset) →
-    let s = c .before .before .before in
-    Ranged (s .pre) (c .before .end .result) (endOf (s .args .n) 0) (c .offset .result) (c .before .end .ensures) refl (c .offset .ensures)
-there c = ranged (c .before .before .before .pre) _ _ _ (c .before .end .ensures) refl (c .offset .ensures)
-
-add-result : tie.Need-add-result
-add-result c = let r = there c in omega (arith, r .part-in, r .end-in)
+there : (c : tie.After-id-word) → let s = c .before .before .before in IdWord (s .args .n) (s .args .store .now) (s .args .id) (c .id-word .result)
+there c =
+    let p = c .before .before .before .pre in
+    rw (c .id-word .ensures) (id-word (p .store) (p .below) (c .before .start .ensures ∙ start-is (p .store) 0))
 
 mul-result : tie.Need-mul-result
-mul-result c = let r = there c in omega (arith, r .part-in, r .end-in)
+mul-result c = omega (arith, there c .inside)
 
 shared-slice-read-result : tie.Need-shared-slice-read-result
-shared-slice-read-result c = let r = there (c .before) in omega (arith, r .part-in, r .end-in)
+shared-slice-read-result c = there (c .before) .inside
 
 returns : tie.Need-returns
-unfolding anc
-returns c =
-    let o = c .before in
-    word-there (o .before .before .before .pre) _ (endOf (o .before .before .before .args .n) 0) _ (o .before .end .ensures) refl (o .offset .ensures)
+returns c = there (c .before) .word-is
 
 pub word0-spec : {M : Type 1} → statement M
 word0-spec =
     tie.close
-    (tie.spec end-requires offset-requires add-result mul-result shared-slice-read-result returns)
+    (tie.spec start-requires id-word-requires mul-result shared-slice-read-result returns)

@@ -5,12 +5,12 @@ use borrow.Author.Needs.{needs}
 use borrow.Author.Tests.{not-true, not-false}
 use Rattle.store.specs.Word.{Words64}
 use Rattle.walk_batches.proofs.Batches.{toGo, Turn, turn, batch-length, less-to-go}
-use Rattle.set_superset.proofs.Batches.{Going, going-start, one-lacks, all-there, going-on}
+use Rattle.set_superset.proofs.Batches.{Holding, holding-start, one-lacks, all-there, going-on}
 use Rattle.set_superset.proofs.all_walked.Statement.{statement}
 use Rattle.set_superset.proofs.all_walked.Tie as tie
 
 abbrev Inv-loop : tie.InvT-loop
-Inv-loop store other ids₀ c₀ ids c = Going store other ids c
+Inv-loop store other ids₀ c₀ ids c = Holding store other ids c
 
 abbrev μ-loop : tie.MeasureT-loop
 μ-loop store other ids₀ c₀ ids c = toGo other c
@@ -25,7 +25,7 @@ words c x = c .before .shared-slice-known2 .given x .fits
 loop-holds : tie.Need-loop-holds Inv-loop μ-loop
 loop-holds c =
     let s = c .before .before .before in
-    going-start (s .args .store .now) (s .args .other .now) (s .pre .1) (words c) (c .started .result) (omega arith) (c .started .ensures)
+    holding-start (s .args .store .now) (s .args .other .now) (s .pre .1) (words c) (c .started .result) (omega arith) (c .started .ensures)
 
 slice-aggregate-fill : tie.Need-slice-aggregate-fill Inv-loop μ-loop
 slice-aggregate-fill c = sym (c .before .loop .inv .at .long)

@@ -10,8 +10,8 @@ use Rattle.set_whole.proofs.empty.Tie as tie
 zero-requires : tie.Need-zero-requires
 zero-requires c κs = search needs
 
-put-requires : tie.Need-put-requires
-put-requires c κs = search needs
+name-requires : tie.Need-name-requires
+name-requires c κs = search needs
 
 same-length : tie.Need-same-length
 same-length c = search needs
@@ -20,7 +20,7 @@ returns : tie.Need-returns
 returns c =
     let p = c .before .before in
     let z = p .before .before .before .before in
-    p .put .ensures ∙ ap (λ (l : List ℕ). set l 0 (z .before .before .before .args .n)) (z .zero .ensures)
+    p .name .ensures ∙ ap (λ (l : List ℕ). set l 0 (z .before .before .before .args .n)) (z .zero .ensures)
 
 pub empty-spec : {M : Type 1} → statement M
-empty-spec = tie.close (tie.spec zero-requires put-requires same-length returns)
+empty-spec = tie.close (tie.spec zero-requires name-requires same-length returns)

@@ -14,20 +14,16 @@ returns c =
     let s = y .before .before .args .store .now in
     is-empty-2 s (no-store s (y .capacity .ensures) (c .if1 .taken))
 
-end-requires : tie.Need-end-requires
-end-requires c κs = search needs
-
-get-requires : tie.Need-get-requires
-get-requires c κs = search needs
+top-word-requires : tie.Need-top-word-requires
+top-word-requires c κs = search needs
 
 returns-2 : tie.Need-returns-2
 returns-2 c =
-    let e = c .before in
-    let n = e .before in
+    let n = c .before in
     let y = n .before in
     let s = y .before .before .args .store .now in
-    is-empty-is (some-store s (y .capacity .ensures) (n .if1 .left)) _ _ (e .end .ensures) (c .get .ensures)
+    is-empty-is (some-store s (y .capacity .ensures) (n .if1 .left)) _ (c .top-word .ensures)
 
 pub is-empty-spec : {M : Type 1} → statement M
 is-empty-spec =
-    tie.close (tie.spec capacity-requires returns end-requires get-requires returns-2)
+    tie.close (tie.spec capacity-requires returns top-word-requires returns-2)

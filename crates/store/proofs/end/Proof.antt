@@ -1,6 +1,6 @@
 -- `store::end` meets its contract: each layer's end is a sum of plain divisions. Assumes nothing.
 use mathlib.Core.Path.{_≡_, refl}
-use Prim.Native.Nat.{_+_, _%_}
+use Prim.Native.Nat.{suc, _%_}
 use native.Mathlib.Omega.{arith}
 use borrow.Author.Needs.{needs}
 use Rattle.store.specs.Layout.{folded}
@@ -10,9 +10,6 @@ use Rattle.store.proofs.end.Tie as tie
 
 wrapping-sub-u64-requires : tie.Need-wrapping-sub-u64-requires
 wrapping-sub-u64-requires c κs = search needs
-
-add-m : tie.Need-add-m
-add-m c = search needs
 
 add-e2 : tie.Need-add-e2
 add-e2 c = search needs
@@ -32,8 +29,11 @@ add-result c = search needs
 add-result-2 : tie.Need-add-result-2
 add-result-2 c = search needs
 
+add-result-3 : tie.Need-add-result-3
+add-result-3 c = search needs
+
 -- the number that is taken for n
-taken : (c : tie.After-wrapping-sub-u64) → c .wrapping-sub-u64 .result % 16777216 + 1 ≡ folded (c .before .args .n)
+taken : (c : tie.After-wrapping-sub-u64) → suc (c .wrapping-sub-u64 .result % 16777216) ≡ folded (c .before .args .n)
 taken c = omega (arith, c .wrapping-sub-u64 .ensures)
 
 returns : tie.Need-returns
@@ -52,20 +52,20 @@ returns-5 : tie.Need-returns-5
 returns-5 c =
     let r = c .match .rest in
     let k = c .before .before .args .k in
-    end-at _ _ _ (taken (c .before)) _ k (λ s m. end-above _ s m k (omega (arith, r .1, r .0 .1, r .0 .0 .1, r .0 .0 .0 .1))) refl
+    end-at _ _ _ (taken (c .before)) _ k (λ m. end-above _ m k (omega (arith, r .1, r .0 .1, r .0 .0 .1, r .0 .0 .0 .1))) refl
 
 pub end-spec : {M : Type 1} → statement M
 end-spec =
     tie.close
     (tie.spec
     wrapping-sub-u64-requires
-    add-m
     add-e2
     add-e2-2
     add-e1
     add-e1-2
     add-result
     add-result-2
+    add-result-3
     returns
     returns-2
     returns-3

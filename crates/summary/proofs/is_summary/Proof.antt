@@ -10,12 +10,12 @@ use lib.Dec.{eqb}
 use lib.ListN.{length, getD, take, drop}
 use Rattle.util.specs.Word.{same}
 use Rattle.store.specs.Build.{summary}
-use Rattle.summary.proofs.Layers.{begins, ahead, ahead-start, ahead-turn, ahead-end}
+use Rattle.summary.proofs.Layers.{begins, soundAhead, ahead-start, ahead-turn, ahead-end}
 use Rattle.summary.proofs.is_summary.Statement.{statement}
 use Rattle.summary.proofs.is_summary.Tie as tie
 
 abbrev Inv-loop : tie.InvT-loop
-Inv-loop part up i₀ i = ahead up part i ≡ same (take up part) (summary (drop up part))
+Inv-loop part up i₀ i = soundAhead up part i ≡ same (take up part) (summary (drop up part))
 
 abbrev μ-loop : tie.MeasureT-loop
 μ-loop part up i₀ i = up - i
@@ -51,13 +51,13 @@ turned : (c : tie.After-gather Inv-loop μ-loop) (b : Bool)
     → let h = c .before .before .before in
     let a = h .before .before .args in
     eqb (getD (a .part .now) (h .loop .i) 0) (c .gather .result) ≡ b
-    → same (take (a .up) (a .part .now)) (summary (drop (a .up) (a .part .now))) ≡ (b && ahead (a .up) (a .part .now) (suc (h .loop .i)))
+    → same (take (a .up) (a .part .now)) (summary (drop (a .up) (a .part .now))) ≡ (b && soundAhead (a .up) (a .part .now) (suc (h .loop .i)))
 turned c b e =
     let h = c .before .before .before in
     let a = h .before .before .args in
     sym (h .loop .inv)
     ∙ ahead-turn (h .before .before .pre) (h .loop .i) (c .gather .result) (c .before .before .loop-test .taken) (c .gather .ensures)
-    ∙ ap (λ (x : Bool). x && ahead (a .up) (a .part .now) (suc (h .loop .i))) e
+    ∙ ap (λ (x : Bool). x && soundAhead (a .up) (a .part .now) (suc (h .loop .i))) e
 
 returns : tie.Need-returns Inv-loop μ-loop
 returns c =

@@ -1,10 +1,12 @@
 -- `fill` meets its contract. Assumes nothing.
+use Prim.Native.Nat.{ℕ}
+use Rattle.store.proofs.TopLayer.{top-is}
 use mathlib.Core.Bool.{true}
-use mathlib.Core.Path.{_≡_}
+use mathlib.Core.Path.{_≡_, subst}
 use borrow.Author.Needs.{needs}
 use lib.ListN.{length}
-use Rattle.store.specs.Layout.{StoreOf}
-use Rattle.walk.specs.Calls.{fits}
+use Rattle.store.specs.Layout.{StoreOf, topMost, top}
+use Rattle.walk.specs.Calls.{fits, Fine}
 use Rattle.walk.proofs.Answers.{was-taken}
 use Rattle.walk.proofs.Cursors.{fine-of}
 use Rattle.walk_fill.proofs.Fills.{fill-refused, fill-lent, fill-answered}
@@ -29,7 +31,7 @@ returns c =
 
 -- past the refusals the slice is a store and the prefixes fit
 taken-here : (c : tie.Else1)
-    → let k = c .before .before in StoreOf (k .capacity .result) (k .before .before .before .args .store .now) × (fits 3 (k .before .before .before .args .c) ≡ true)
+    → let k = c .before .before in StoreOf (k .capacity .result) (k .before .before .before .args .store .now) × (fits (top (k .capacity .result)) (k .before .before .before .args .c) ≡ true)
 taken-here c =
     let r = c .before in
     let k = r .before in
@@ -46,7 +48,12 @@ layer0-as-slice-requires : tie.Need-layer0-as-slice-requires
 layer0-as-slice-requires c κs = search needs
 
 fill-in-requires : tie.Need-fill-in-requires
-fill-in-requires c κs = fine-of 3 _ (taken-here (c .before .before .before .before) .1)
+fill-in-requires c κs =
+    let e = c .before .before .before .before in
+    let k = e .before .before in
+    let c₀ = k .before .before .before .args .c in
+    let n = k .capacity .result in
+    subst (λ (t : ℕ). Fine t (c₀ .prefix)) (top-is n) (fine-of (top n) (c₀ .prefix) (taken-here e .1))
 
 same-length : tie.Need-same-length
 same-length c = search needs

@@ -1,4 +1,5 @@
 -- `rest` meets its contract. Assumes nothing.
+use Rattle.store.specs.Layout.{topMost}
 use mathlib.Core.Path.{sym, ap, _∙_}
 use borrow.Author.Needs.{needs}
 use Rattle.walk.specs.Walk.{kind}
@@ -18,7 +19,7 @@ returns c =
     let w = c .before .before in
     let a = w .before .args in
     c .made .ensures
-    ∙ ap (λ (x : Stop). record { cursor = a .c; reads = a .reads; count = a .count; stop = x }) (sym (rest-paused (kind 3 (a .c)) (sym (w .wants .ensures) ∙ c .before .if1 .taken)))
+    ∙ ap (λ (x : Stop). record { cursor = a .c; reads = a .reads; count = a .count; stop = x }) (sym (rest-paused (kind topMost (a .c)) (sym (w .wants .ensures) ∙ c .before .if1 .taken)))
 
 made-requires-2 : tie.Need-made-requires-2
 made-requires-2 c κs = search needs
@@ -28,7 +29,7 @@ returns-2 c =
     let w = c .before .before in
     let a = w .before .args in
     c .made2 .ensures
-    ∙ ap (λ (x : Stop). record { cursor = a .c; reads = a .reads; count = a .count; stop = x }) (sym (rest-end (kind 3 (a .c)) (sym (w .wants .ensures) ∙ c .before .if1 .left)))
+    ∙ ap (λ (x : Stop). record { cursor = a .c; reads = a .reads; count = a .count; stop = x }) (sym (rest-end (kind topMost (a .c)) (sym (w .wants .ensures) ∙ c .before .if1 .left)))
 
 pub rest-spec : {M : Type 1} → statement M
 rest-spec = tie.close (tie.spec wants-requires made-requires returns made-requires-2 returns-2)

@@ -1,5 +1,6 @@
 -- `place` meets its contract. Assumes nothing.
-use Prim.Native.Nat.{_%_}
+use Rattle.store.specs.Layout.{topMost}
+use Prim.Native.Nat.{_%_, suc}
 use native.Mathlib.Omega.{arith}
 use borrow.Author.Needs.{needs}
 use Rattle.walk_masks.proofs.Masks.{prefix-below, prefix-top}
@@ -19,7 +20,7 @@ returns : tie.Need-returns
 returns c =
     let a = c .before .before .args in
     let e = c .behind .ensures in
-    (omega (arith, e .0, prefix-top 3 (a .t2) (a .k % 4) (omega (arith, c .before .if1 .taken))), e .1)
+    (omega (arith, e .0, prefix-top topMost (a .t2) (a .k % suc topMost) (omega (arith, c .before .if1 .taken))), e .1)
 
 mul-behind-2 : tie.Need-mul-behind-2
 mul-behind-2 c = search needs
@@ -40,7 +41,7 @@ returns-2 : tie.Need-returns-2
 returns-2 c =
     let a = c .before .before .args in
     let e = c .behind2 .ensures in
-    (omega (arith, e .0, prefix-below 3 (a .t2) (a .k % 4) (omega (arith, c .before .if1 .left))), e .1)
+    (omega (arith, e .0, prefix-below topMost (a .t2) (a .k % suc topMost) (omega (arith, c .before .if1 .left))), e .1)
 
 pub place-spec : {M : Type 1} → statement M
 place-spec =

@@ -1,4 +1,5 @@
 -- `refusal` meets its contract. Assumes nothing.
+use Rattle.store.proofs.TopLayer.{top-is}
 use mathlib.Core.Path.{sym, _∙_}
 use borrow.Author.Needs.{needs}
 use borrow.Author.Tests.{eq-eqb, ne-eqb}
@@ -35,13 +36,13 @@ returns-2 : tie.Need-returns-2
 unfolding refusalOf prefixesFit
 returns-2 c =
     let e = c .before .before in
-    sym (rw (ne-eqb (e .before .args .n) 0 (e .if1 .left), sym (c .before .are-prefixes .ensures) ∙ c .if2 .taken))
+    sym (rw (ne-eqb (e .before .args .n) 0 (e .if1 .left), top-is (e .before .args .n), sym (c .before .are-prefixes .ensures) ∙ c .if2 .taken))
 
 returns-3 : tie.Need-returns-3
 unfolding refusalOf prefixesFit
 returns-3 c =
     let e = c .before .before in
-    sym (rw (ne-eqb (e .before .args .n) 0 (e .if1 .left), sym (c .before .are-prefixes .ensures) ∙ c .if2 .left))
+    sym (rw (ne-eqb (e .before .args .n) 0 (e .if1 .left), top-is (e .before .args .n), sym (c .before .are-prefixes .ensures) ∙ c .if2 .left))
 
 pub refusal-spec : {M : Type 1} → statement M
 refusal-spec =

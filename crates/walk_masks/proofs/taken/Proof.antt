@@ -1,4 +1,5 @@
 -- `taken` meets its contract. Assumes nothing.
+use Rattle.store.specs.Layout.{topMost}
 use mathlib.Core.List.{List}
 use mathlib.Core.Path.{_≡_, ap, _∙_}
 use Prim.Native.Nat.{ℕ, suc, _+_, _%_}
@@ -24,8 +25,8 @@ array-write-r c = search needs
 returns : tie.Need-returns
 returns c =
     let a = c .before .args in
-    let j = a .j % 3 in
-    let e : (j + 1) % 4 ≡ suc j = omega arith in
+    let j = a .j % topMost in
+    let e : (j + 1) % suc topMost ≡ suc j = omega arith in
     ap (λ (x : List ℕ). set x j (a .word)) (c .without .ensures ∙ ap (bare (a .masks)) e)
 
 pub taken-spec : {M : Type 1} → statement M

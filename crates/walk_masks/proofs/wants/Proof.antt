@@ -1,7 +1,8 @@
 -- `wants` meets its contract: the masks before the one that is met are 0. Assumes nothing.
+use Rattle.store.specs.Layout.{topMost}
 use mathlib.Core.Bool.{Bool, true, false, not, cond}
 use mathlib.Core.Path.{_≡_, refl, sym, ap, _∙_}
-use Prim.Native.Nat.{ℕ}
+use Prim.Native.Nat.{ℕ, suc}
 use borrow.Author.Needs.{needs}
 use lib.Dec.{eqb}
 use lib.ListN.{getD}
@@ -12,9 +13,9 @@ use Rattle.walk_masks.proofs.wants.Tie as tie
 
 -- whether it is a layer above layer 0
 abbrev asks : ℕ → Bool
-asks l = between 0 l 4
+asks l = between 0 l (suc topMost)
 
-last : (b : Bool) → not b ≡ asks (cond b 4 3)
+last : (b : Bool) → not b ≡ asks (cond b (suc topMost) topMost)
 last true = refl
 last false = refl
 
@@ -46,7 +47,7 @@ unfolding lowFrom
 returns-4 c =
     let e = c .before in
     let ms = e .before .before .args .t1 in
-    last (eqb (getD ms 3 0) 0) ∙ ap asks (sym (low-pass ms 0 3 (e .before .if1 .left) ∙ low-pass ms 1 2 (e .if2 .left) ∙ low-pass ms 2 1 (c .if3 .left)))
+    last (eqb (getD ms topMost 0) 0) ∙ ap asks (sym (low-pass ms 0 3 (e .before .if1 .left) ∙ low-pass ms 1 2 (e .if2 .left) ∙ low-pass ms 2 1 (c .if3 .left)))
 
 pub wants-spec : {M : Type 1} → statement M
 wants-spec =

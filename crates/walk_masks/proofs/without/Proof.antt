@@ -1,6 +1,7 @@
 -- `without` meets its contract. Assumes nothing.
+use Rattle.store.specs.Layout.{topMost}
 use mathlib.Core.Path.{ap}
-use Prim.Native.Nat.{_%_}
+use Prim.Native.Nat.{_%_, suc}
 use borrow.Author.Needs.{needs}
 use lib.ListN.{set}
 use Rattle.walk_masks.proofs.without.Statement.{statement}
@@ -22,7 +23,7 @@ array-write-r : tie.Need-array-write-r
 array-write-r c = search needs
 
 returns : tie.Need-returns
-returns c = let a = c .before .args in ap (set (a .t1) (a .k % 4)) (c .drop-lowest .ensures)
+returns c = let a = c .before .args in ap (set (a .t1) (a .k % suc topMost)) (c .drop-lowest .ensures)
 
 pub without-spec : {M : Type 1} → statement M
 without-spec =

@@ -1,4 +1,5 @@
 -- `Cursor::down` meets its contract. Assumes nothing.
+use Rattle.store.specs.Layout.{topMost}
 use mathlib.Core.Path.{refl}
 use native.Mathlib.Omega.{arith}
 use borrow.Author.Needs.{needs}
@@ -20,7 +21,7 @@ returns : tie.Need-returns
 returns c =
     let t = c .before in
     let s = begin (t .before) in
-    lowers-at (low-one-of-three (s .args .self) (reading-zero 3 (s .args .self) (s .pre)) (t .if1 .taken) .0) (λ i. refl) (c .read .ensures)
+    lowers-at (low-one-of-three (s .args .self) (reading-zero topMost (s .args .self) (s .pre)) (t .if1 .taken) .0) (λ i. refl) (c .read .ensures)
 
 array-read-if2 : tie.Need-array-read-if2
 array-read-if2 c = search needs
@@ -32,19 +33,19 @@ returns-2 : tie.Need-returns-2
 returns-2 c =
     let t = c .before in
     let s = begin (t .before .before) in
-    lowers-at (low-two-of-three (s .args .self) (reading-zero 3 (s .args .self) (s .pre)) (t .before .if1 .left) (t .if2 .taken) .0) (λ i. refl) (c .read2 .ensures)
+    lowers-at (low-two-of-three (s .args .self) (reading-zero topMost (s .args .self) (s .pre)) (t .before .if1 .left) (t .if2 .taken) .0) (λ i. refl) (c .read2 .ensures)
 
 read-requires-3 : tie.Need-read-requires-3
 read-requires-3 c κs =
     let s = begin (c .before .before) in
-    let h = top-wanted (s .args .self) (reading-zero 3 (s .args .self) (s .pre)) (c .before .if1 .left) (c .if2 .left) (s .pre) in
+    let h = top-wanted (s .args .self) (reading-zero topMost (s .args .self) (s .pre)) (c .before .if1 .left) (c .if2 .left) (s .pre) in
     (omega arith, omega (arith, h))
 
 returns-3 : tie.Need-returns-3
 returns-3 c =
     let t = c .before in
     let s = begin (t .before .before) in
-    let z = reading-zero 3 (s .args .self) (s .pre) in
+    let z = reading-zero topMost (s .args .self) (s .pre) in
     let h = top-wanted (s .args .self) z (t .before .if1 .left) (t .if2 .left) (s .pre) in
     lowers-at (low-three-of-three (s .args .self) z (t .before .if1 .left) (t .if2 .left) h .0) (λ i. refl) (c .read3 .ensures)
 

@@ -1,4 +1,6 @@
 -- `Cursor::finish` meets its contract. Assumes nothing.
+use native.Mathlib.Omega.{arith}
+use Rattle.store.specs.Layout.{topMost}
 use mathlib.Core.Path.{sym, ap, _∙_, subst}
 use Prim.Native.Nat.{ℕ, _%_}
 use borrow.Author.Needs.{needs}
@@ -26,8 +28,8 @@ returns : tie.Need-returns
 returns c =
     let h = c .before in
     let p = h .before in
-    subst (Finishes _ _) (sym (c .step .ensures))
-    (finish-member _ _ (p .before .if1 .taken) (p .place .ensures .1) (h .hand .ensures) (ap (λ (x : ℕ). x % 4294967296) (p .place .ensures .0)))
+    subst (Finishes topMost _ _) (sym (c .step .ensures))
+    (finish-member topMost _ _ (omega arith) (p .before .if1 .taken) (p .place .ensures .1) (h .hand .ensures) (ap (λ (x : ℕ). x % 4294967296) (p .place .ensures .0)))
 
 wants-requires : tie.Need-wants-requires
 wants-requires c κs = search needs
@@ -38,7 +40,7 @@ step-requires-2 c κs = search needs
 returns-2 : tie.Need-returns-2
 returns-2 c =
     let t = c .before in
-    subst (Finishes _ _) (sym (c .step2 .ensures)) (finish-paused _ _ (sym (t .before .wants .ensures) ∙ t .if2 .taken))
+    subst (Finishes topMost _ _) (sym (c .step2 .ensures)) (finish-paused topMost _ _ (sym (t .before .wants .ensures) ∙ t .if2 .taken))
 
 step-requires-3 : tie.Need-step-requires-3
 step-requires-3 c κs = search needs
@@ -47,7 +49,7 @@ returns-3 : tie.Need-returns-3
 returns-3 c =
     let t = c .before in
     let w = t .before in
-    subst (Finishes _ _) (sym (c .step3 .ensures)) (finish-end _ _ (sym (w .wants .ensures) ∙ t .if2 .left) (w .before .if1 .left))
+    subst (Finishes topMost _ _) (sym (c .step3 .ensures)) (finish-end topMost _ _ (sym (w .wants .ensures) ∙ t .if2 .left) (w .before .if1 .left))
 
 pub finish-spec : {M : Type 1} → statement M
 finish-spec =

@@ -1,4 +1,5 @@
 -- `Cursor::handle_level` meets its contract. Assumes nothing.
+use Rattle.store.specs.Layout.{topMost}
 use mathlib.Core.List.{List}
 use mathlib.Core.Path.{_≡_, ap, ap₂, _∙_}
 use Prim.Native.Nat.{ℕ, suc, _+_, _*_, _%_}
@@ -26,10 +27,10 @@ unfolding placeAt taken less
 returns c =
     let p = c .before .before in
     let a = p .before .before .before .args in
-    let j = a .j % 3 in
-    let m : (j + 1) % 4 ≡ suc j = omega arith in
+    let j = a .j % topMost in
+    let m : (j + 1) % suc topMost ≡ suc j = omega arith in
     ap₂ (λ (x y : List ℕ). record { masks = x; prefix = y }) (c .before .taken .ensures)
-    (c .under .ensures ∙ ap (λ (q : ℕ). set (a .self .prefix) j (q % 67108864 * 64)) (p .place .ensures .0 ∙ ap (placeAt 3 (a .self)) m))
+    (c .under .ensures ∙ ap (λ (q : ℕ). set (a .self .prefix) j (q % 67108864 * 64)) (p .place .ensures .0 ∙ ap (placeAt topMost (a .self)) m))
 
 pub handle-level-spec : {M : Type 1} → statement M
 handle-level-spec =

@@ -1,9 +1,11 @@
 -- `Cursor::next` meets its contract. Assumes nothing.
+use Prim.Native.Nat.{ℕ}
+use Rattle.store.proofs.TopLayer.{top-is}
 use mathlib.Core.Bool.{true}
-use mathlib.Core.Path.{_≡_, _∙_}
+use mathlib.Core.Path.{_≡_, _∙_, subst}
 use borrow.Author.Needs.{needs}
-use Rattle.store.specs.Layout.{StoreOf}
-use Rattle.walk.specs.Calls.{fits}
+use Rattle.store.specs.Layout.{StoreOf, topMost, top}
+use Rattle.walk.specs.Calls.{fits, Fine}
 use Rattle.walk.proofs.Answers.{answered, was-taken, next-refused, next-lent}
 use Rattle.walk.proofs.Cursor.next.Statement.{statement}
 use Rattle.walk.proofs.Cursor.next.Tie as tie
@@ -26,7 +28,7 @@ returns c =
     answered (c .step .ensures ∙ next-refused (a .store .now) (a .self) (a .budget) (k .capacity .ensures) (r .refusal .ensures) (c .before .if1 .taken))
 
 -- past the refusals the slice is a store and the prefixes fit
-taken-here : (c : tie.Else1) → let k = c .before .before in StoreOf (k .capacity .result) (k .before .before .args .store .now) × (fits 3 (k .before .before .args .self) ≡ true)
+taken-here : (c : tie.Else1) → let k = c .before .before in StoreOf (k .capacity .result) (k .before .before .args .store .now) × (fits (top (k .capacity .result)) (k .before .before .args .self) ≡ true)
 taken-here c =
     let r = c .before in
     let k = r .before in
@@ -43,7 +45,12 @@ layer0-as-slice-requires : tie.Need-layer0-as-slice-requires
 layer0-as-slice-requires c κs = search needs
 
 run-requires : tie.Need-run-requires
-run-requires c κs = fine-of 3 _ (taken-here (c .before .before .before) .1)
+run-requires c κs =
+    let e = c .before .before .before in
+    let k = e .before .before in
+    let c₀ = k .before .before .args .self in
+    let n = k .capacity .result in
+    subst (λ (t : ℕ). Fine t (c₀ .prefix)) (top-is n) (fine-of (top n) (c₀ .prefix) (taken-here e .1))
 
 returns-2 : tie.Need-returns-2
 returns-2 c =

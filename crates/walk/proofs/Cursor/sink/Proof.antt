@@ -1,4 +1,5 @@
 -- `Cursor::sink` meets its contract: `Sinking` is the invariant. Assumes nothing.
+use Rattle.store.specs.Layout.{topMost}
 use mathlib.Core.List.{[], _∷_}
 use mathlib.Core.Path.{sym, _∙_}
 use Prim.Native.Nat.{_-_}
@@ -9,13 +10,13 @@ use Rattle.walk.proofs.Cursor.sink.Tie as tie
 use Rattle.walk.proofs.Turns.{Sinking, sink-start, sink-again, sink-rests, sink-spent}
 
 abbrev Inv-loop : tie.InvT-loop
-Inv-loop l2 l1 l0 spent budget c₀ reads₀ c reads = Sinking (parts (l0 ∷ l1 ∷ l2 ∷ [])) budget spent c₀ c reads
+Inv-loop l2 l1 l0 spent budget c₀ reads₀ c reads = Sinking (parts (l0 ∷ l1 ∷ l2 ∷ [])) topMost budget spent c₀ c reads
 
 abbrev μ-loop : tie.MeasureT-loop
 μ-loop l2 l1 l0 spent budget c₀ reads₀ c reads = budget - reads
 
 loop-holds : tie.Need-loop-holds Inv-loop μ-loop
-loop-holds c = sink-start _ _ _ _
+loop-holds c = sink-start _ _ _ _ _
 
 wants-requires : tie.Need-wants-requires Inv-loop μ-loop
 wants-requires c κs = tt

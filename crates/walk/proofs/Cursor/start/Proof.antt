@@ -21,8 +21,8 @@ returns c =
     let a = k .before .before .args in
     answered (c .step .ensures ∙ start-2 (a .store .now) (a .self) (no-store (a .store .now) (k .capacity .ensures) (c .before .if1 .taken)))
 
-get-requires : tie.Need-get-requires
-get-requires c κs = search needs
+top-word-requires : tie.Need-top-word-requires
+top-word-requires c κs = search needs
 
 above-requires : tie.Need-above-requires
 above-requires c κs = search needs
@@ -31,13 +31,12 @@ step-requires-2 : tie.Need-step-requires-2
 step-requires-2 c κs = search needs
 
 returns-2 : tie.Need-returns-2
-unfolding top
 returns-2 c =
     let g = c .before .before in
     let e = g .before in
     let a = e .before .before .before .args in
     answered (c .step2 .ensures ∙ ap (λ (x : Cursor). record { cursor = x; reads = 1; answer = Paused }) (c .before .above .ensures)
-    ∙ start-runs (some-store (a .store .now) (e .before .capacity .ensures) (e .if1 .left)) (a .self) (g .get .result) (g .get .ensures))
+    ∙ start-runs (some-store (a .store .now) (e .before .capacity .ensures) (e .if1 .left)) (a .self) (g .top-word .result) (g .top-word .ensures))
 
 pub start-spec : {M : Type 1} → statement M
 start-spec =
@@ -46,7 +45,7 @@ start-spec =
     capacity-requires
     step-requires
     returns
-    get-requires
+    top-word-requires
     above-requires
     step-requires-2
     returns-2)
