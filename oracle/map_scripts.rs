@@ -162,3 +162,19 @@ fn wrong(out: &mut impl Write, r: &mut Random) -> io::Result<()> {
     }
     Ok(())
 }
+
+/// `mapask`: every line of `map` and `damage`; the length of a map is asked for after each that is written, and the capacity that a map names
+/// before each that is read.
+pub fn mapask(out: &mut impl Write) -> io::Result<()> {
+    let mut lines = Vec::new();
+    map(&mut lines)?;
+    damage(&mut lines)?;
+    for line in String::from_utf8_lossy(&lines).lines() {
+        match line.split(' ').collect::<Vec<_>>()[..] {
+            ["write", _, store] => writeln!(out, "{line}\nmaplen {store}")?,
+            ["read", map, _] => writeln!(out, "mapcap {map}\n{line}")?,
+            _ => writeln!(out, "{line}")?,
+        }
+    }
+    Ok(())
+}

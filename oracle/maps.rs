@@ -24,8 +24,19 @@ pub fn write(n: u64, ids: &[u32], buffer: &mut [u8]) -> Result<u64, u64> {
     Ok(map.len() as u64)
 }
 
-/// The ids that a map tells of a store of capacity n, or what is wrong with it: 9, 5, 10, 11, in this order.
-pub fn read(map: &[u8], n: u64) -> Result<Vec<u32>, u64> {
+/// How long the map of a set of capacity n with these ids is.
+pub fn length(n: u64, ids: &[u32]) -> u64 {
+    bytes(n, ids).len() as u64
+}
+
+/// What a map's header says, and its table; or 9.
+struct Map<'a> {
+    capacity: u64,
+    count: u64,
+    table: &'a [u8],
+}
+
+fn map(map: &[u8]) -> Result<Map<'_>, u64> {
     let number = |at: usize| Some(u64::from(u32::from_le_bytes(map.get(at..at + 4)?.try_into().ok()?)));
     let header: Vec<u64> = (0..4).map(|i| number(4 * i)).collect::<Option<_>>().ok_or(9u64)?;
     let [capacity, count, used, offset] = header[..] else { unreachable!() };
@@ -33,6 +44,17 @@ pub fn read(map: &[u8], n: u64) -> Result<Vec<u32>, u64> {
         return Err(9);
     }
     let table = map.get(16..16 + 12 * used as usize).ok_or(9u64)?;
+    Ok(Map { capacity, count, table })
+}
+
+/// The capacity that a map names, or 9.
+pub fn capacity(bytes: &[u8]) -> Result<u64, u64> {
+    Ok(map(bytes)?.capacity)
+}
+
+/// The ids that a map tells of a store of capacity n, or what is wrong with it: 9, 5, 10, 11, in this order.
+pub fn read(bytes: &[u8], n: u64) -> Result<Vec<u32>, u64> {
+    let Map { capacity, count, table } = map(bytes)?;
     if capacity != n {
         return Err(5);
     }

@@ -39,6 +39,7 @@ fn main() -> io::Result<()> {
         ["script", "merge"] => merge_scripts::merge(&mut out)?,
         ["script", "map"] => map_scripts::map(&mut out)?,
         ["script", "damage"] => map_scripts::damage(&mut out)?,
+        ["script", "mapask"] => map_scripts::mapask(&mut out)?,
         ["script", "formula"] => formula_scripts::formula_script(&mut out)?,
         ["script", "damaged"] => formula_scripts::damaged_script(&mut out)?,
         ["script", "fwalk"] => formula_walk_scripts::walk(&mut out)?,
@@ -49,7 +50,7 @@ fn main() -> io::Result<()> {
             answers::all(&script, &mut out)?;
         }
         _ => {
-            eprintln!("usage: oracle script average | row | bad | small | history | top | unsound | refusal | walk | cursor | fill | superset | merge | map | damage | formula | damaged | fwalk | ffill; oracle answer <SCRIPT");
+            eprintln!("usage: oracle script average | row | bad | small | history | top | unsound | refusal | walk | cursor | fill | superset | merge | map | damage | mapask | formula | damaged | fwalk | ffill; oracle answer <SCRIPT");
             std::process::exit(2);
         }
     }

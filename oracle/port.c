@@ -339,6 +339,8 @@ static bool c_first(line *l) { fen_cursor c; return stepped(fen_probe_first(S(0)
 
 static bool c_write(line *l) { return told(fen_map_write(S(0), BYTES)); }
 static bool c_read(line *l) { return told(fen_map_read(BYTES, S(0))); }
+static bool c_maplen(line *l) { return told(fen_map_length(S(0))); }
+static bool c_mapcap(line *l) { return told(fen_map_capacity(BYTES)); }
 
 static bool c_fempty(line *l) { return told(fen_formula_is_empty(FORMULA)); }
 static bool c_fcontain(line *l) { return told(fen_formula_contains(FORMULA, id(l->n[5]))); }
@@ -358,8 +360,9 @@ static const command commands[] = {
     {"sound", "s", c_sound},       {"rebuild", "s", c_rebuild},    {"word", "snn", c_word},         {"layer", "sn", c_layer},
     {"or", "so", c_or},            {"and", "so", c_and},           {"xor", "so", c_xor},            {"start", "cs", c_start},
     {"next", "csn", c_next},       {"fill", "csnd", c_fill},       {"first", "sn", c_first},        {"write", "ws", c_write},
-    {"read", "ms", c_read},        {"fempty", "feeee", c_fempty},  {"fcontain", "feeeei", c_fcontain}, {"fword", "feeeenn", c_fword},
-    {"fstart", "feeeec", c_fstart}, {"fnext", "feeeecn", c_fnext}, {"ffill", "feeeecnp", c_ffill},
+    {"read", "ms", c_read},        {"maplen", "s", c_maplen},      {"mapcap", "m", c_mapcap},       {"fempty", "feeee", c_fempty},
+    {"fcontain", "feeeei", c_fcontain}, {"fword", "feeeenn", c_fword}, {"fstart", "feeeec", c_fstart}, {"fnext", "feeeecn", c_fnext},
+    {"ffill", "feeeecnp", c_ffill},
 };
 
 static const command *named(const char *word)

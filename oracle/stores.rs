@@ -89,6 +89,11 @@ impl Set {
         words
     }
 
+    /// The members.
+    fn ids(&self) -> Vec<u32> {
+        (0..self.n as u32).filter(|&id| self.bits.contains(id)).collect()
+    }
+
     /// The words of the store: the capacity, then the layers from the top down.
     fn words(&self) -> Vec<u64> {
         let mut words = vec![self.n];
@@ -186,6 +191,8 @@ impl Stores {
             ("first", &[budget]) => Some(told(self.first(s, budget))),
             ("write", &[t]) if t < SLOTS as u64 => self.write(s, t as usize),
             ("read", &[t]) if t < SLOTS as u64 => self.read(s, t as usize),
+            ("maplen", &[]) => paper(self.map_length(s)),
+            ("mapcap", &[]) => paper(maps::capacity(&self.bytes(s)?)),
             _ => None,
         }
     }
@@ -473,10 +480,7 @@ impl Stores {
     /// The map of the crate's members of slot s goes into slot m.
     fn write(&mut self, m: usize, s: usize) -> Option<Vec<u64>> {
         let mut bytes = self.bytes(m)?;
-        let answer = self.store(s).and_then(|set| {
-            let ids: Vec<u32> = (0..set.n as u32).filter(|&id| set.bits.contains(id)).collect();
-            maps::write(set.n, &ids, &mut bytes)
-        });
+        let answer = self.store(s).and_then(|set| maps::write(set.n, &set.ids(), &mut bytes));
         self.settle(m);
         self.put_back(m);
         let from = self.slots[m].from;
@@ -484,6 +488,11 @@ impl Stores {
             self.memory[from + i] = b.into();
         }
         paper(answer)
+    }
+
+    /// How long the map of the crate's members of slot s is.
+    fn map_length(&mut self, s: usize) -> Result<u64, u64> {
+        self.store(s).map(|set| maps::length(set.n, &set.ids()))
     }
 
     /// The map in slot m is read into slot s, as a new set of the crate to which its ids are added.
