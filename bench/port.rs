@@ -12,6 +12,12 @@ struct Step {
     value: u64,
 }
 
+/// What a step says, by the header's numbers.
+const MEMBER: u64 = 1;
+const PAUSED: u64 = 2;
+const END: u64 = 3;
+const FULL: u64 = 4;
+
 extern "C" {
     fn fen_contains(store: *const u64, len: usize, id: u32) -> Answer;
     fn fen_add(store: *mut u64, len: usize, id: u32) -> Answer;
@@ -32,8 +38,8 @@ extern "C" {
     fn fen_bitor_assign(store: *mut u64, len: usize, other: *const u64, length: usize) -> Answer;
     fn fen_bitand_assign(store: *mut u64, len: usize, other: *const u64, length: usize) -> Answer;
     fn fen_bitxor_assign(store: *mut u64, len: usize, other: *const u64, length: usize) -> Answer;
-    fn fen_write(store: *const u64, len: usize, buf: *mut u8, room: usize) -> Answer;
-    fn fen_read(map: *const u8, length: usize, store: *mut u64, len: usize) -> Answer;
+    fn fen_map_write(store: *const u64, len: usize, buf: *mut u8, room: usize) -> Answer;
+    fn fen_map_read(map: *const u8, length: usize, store: *mut u64, len: usize) -> Answer;
 }
 
 type Merge = unsafe extern "C" fn(*mut u64, usize, *const u64, usize) -> Answer;
@@ -72,7 +78,7 @@ impl Store {
 
     pub fn start(&self) -> [u64; 10] {
         let mut cursor = [0; 10];
-        assert!(unsafe { fen_start(self.0.as_ptr(), self.0.len(), &mut cursor) }.which == 2);
+        assert!(unsafe { fen_start(self.0.as_ptr(), self.0.len(), &mut cursor) }.which == PAUSED);
         cursor
     }
 
@@ -82,8 +88,8 @@ impl Store {
         loop {
             let step = unsafe { fen_next(self.0.as_ptr(), self.0.len(), &mut cursor, 4) };
             match step.which {
-                1 => sum += step.value,
-                3 => return sum,
+                MEMBER => sum += step.value,
+                END => return sum,
                 _ => panic!("next: {} {}", step.which, step.value),
             }
         }
@@ -98,8 +104,8 @@ impl Store {
             };
             sum += out[..step.value as usize].iter().map(|&id| u64::from(id)).sum::<u64>();
             match step.which {
-                1 => {}
-                3 => return sum,
+                FULL => {}
+                END => return sum,
                 _ => panic!("fill: {} {}", step.which, step.value),
             }
         }
@@ -124,11 +130,11 @@ impl Store {
 
     /// The length of the map that was written.
     pub fn write(&self, buf: &mut [u8]) -> u64 {
-        unsafe { fen_write(self.0.as_ptr(), self.0.len(), buf.as_mut_ptr(), buf.len()).value }
+        unsafe { fen_map_write(self.0.as_ptr(), self.0.len(), buf.as_mut_ptr(), buf.len()).value }
     }
 
     pub fn read(&mut self, map: &[u8]) -> u64 {
-        unsafe { fen_read(map.as_ptr(), map.len(), self.0.as_mut_ptr(), self.0.len()).refusal }
+        unsafe { fen_map_read(map.as_ptr(), map.len(), self.0.as_mut_ptr(), self.0.len()).refusal }
     }
 }
 
@@ -142,7 +148,7 @@ pub fn formula_sum(codes: &[u8], s: &[Store], out: &mut [u32; 256]) -> u64 {
             &mut cursor,
         )
     };
-    assert_eq!(start.which, 2);
+    assert_eq!(start.which, PAUSED);
     loop {
         let step = unsafe {
             fen_formula_fill(
@@ -152,8 +158,8 @@ pub fn formula_sum(codes: &[u8], s: &[Store], out: &mut [u32; 256]) -> u64 {
         };
         sum += out[..step.value as usize].iter().map(|&id| u64::from(id)).sum::<u64>();
         match step.which {
-            1 => {}
-            3 => return sum,
+            FULL => {}
+            END => return sum,
             _ => panic!("fill over a formula: {} {}", step.which, step.value),
         }
     }

@@ -5,6 +5,7 @@ use mathlib.Core.Logic.{_≢_}
 use mathlib.Core.Path.{_≡_, refl, sym, ap, _∙_}
 use Prim.Native.Nat.{ℕ, suc, _+_, _/_, _%_, _^_, _<_}
 use native.Mathlib.Decide.{ℕ-discrete}
+use native.Mathlib.Numerals.{add-one}
 use native.Mathlib.Omega.{arith}
 use borrow.Author.Tests.{eq-eqb, ne-eqb, lt-ltb}
 use lib.Dec.{ltb, eqb}
@@ -128,9 +129,29 @@ pub below-turn : (N : ℕ) (ids : List ℕ) (k : ℕ) → k < length ids → all
 unfolding allBelow
 below-turn N ids k h = ap (allBelow N) (drop-cons ids k 0 h)
 
-pub below-end : (N : ℕ) (ids : List ℕ) (k : ℕ) → k ≡ length ids → allBelow N (drop k ids) ≡ true
+below-end : (N : ℕ) (ids : List ℕ) (k : ℕ) → k ≡ length ids → allBelow N (drop k ids) ≡ true
 unfolding allBelow
 below-end N ids k h = ap (allBelow N) (ap (λ (x : ℕ). drop x ids) h ∙ drop-length ids)
+
+-- one id more is looked at: what was found so far, and its test
+pub below-next : (N : ℕ) (ids : List ℕ) (k : ℕ) (a b : Bool) → k < length ids → b ≡ ltb (getD ids k 0) N → (a && allBelow N (drop k ids)) ≡ allBelow N ids
+    → ((a && b) && allBelow N (drop (k + 1) ids)) ≡ allBelow N ids
+below-next N ids k a b h e w = go a ∙ ap (λ (x : Bool). a && x) (sym (below-turn N ids k h ∙ ap (λ (x : Bool). x && rest (suc k)) (sym e))) ∙ w
+  where
+    rest : ℕ → Bool
+    rest j = allBelow N (drop j ids)
+
+    go : (x : Bool) → ((x && b) && rest (k + 1)) ≡ (x && (b && rest (suc k)))
+    go true = ap (λ (j : ℕ). b && rest j) (add-one k)
+    go false = refl
+
+-- all are looked at
+pub below-all : (N : ℕ) (ids : List ℕ) (k : ℕ) (a : Bool) → k ≡ length ids → (a && allBelow N (drop k ids)) ≡ allBelow N ids → a ≡ allBelow N ids
+below-all N ids k a h w = go a ∙ w
+  where
+    go : (x : Bool) → x ≡ (x && allBelow N (drop k ids))
+    go true = sym (below-end N ids k h)
+    go false = refl
 
 pub add-turn : (N : ℕ) (s ids : List ℕ) (k : ℕ) → k < length ids
     → addAll N s (drop k ids) ≡ addAll N (movedBy true N s (getD ids k 0)) (drop (suc k) ids)

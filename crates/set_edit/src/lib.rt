@@ -3,11 +3,11 @@
 ghost use mathlib.Core.Bool.{true, false};
 ghost use mathlib.Core.List.{List};
 ghost use mathlib.Core.Path.{_≡_};
-ghost use Prim.Native.Nat.{ℕ, suc, _+_, _/_, _<_};
+ghost use Prim.Native.Nat.{ℕ, suc, _+_, _/_, _≤_, _<_};
 ghost use lib.ListN.{length, set};
 ghost use Rattle.util.specs.Outcome.{Settled};
 ghost use Rattle.store.specs.Answer.{askedPaper, didPaper};
-ghost use Rattle.store.specs.Layout.{top, StoreOf};
+ghost use Rattle.store.specs.Layout.{top, maxCap, StoreOf};
 ghost use Rattle.set_member.specs.Place.{Placed, Inside};
 ghost use Rattle.set_edit.specs.Calls.{addOf, removeOf, allBelow, addAll, addListOf};
 ghost use Rattle.set_edit.specs.Edit.{climb};
@@ -132,18 +132,19 @@ pub fn remove(store: &mut [u64], id: u32) -> Asked
     }
 }
 
-// Whether every id of the list has room.
+// Whether every id of the list has room. All are looked at, with no branch and in 32 bits, so that many are compared at a time.
 fn all_below(ids: &[u32], n: usize) -> bool
+    requires { ⌜ n ≤ maxCap ⌝ }
     ensures { λ r. ⌜ r ≡ allBelow n (now (ids .entry)) ⌝ }
 {
+    let limit = n as u32;
+    let mut all = true;
     let mut i = 0;
     while i < ids.len() {
-        if !set_member::has_room(ids[i], n) {
-            return false;
-        }
+        all = all & (ids[i] < limit);
         i += 1;
     }
-    true
+    all
 }
 
 // Adds every id of a list that has room for all.

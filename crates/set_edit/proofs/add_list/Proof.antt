@@ -27,7 +27,7 @@ store-here c =
     some-store (y .before .before .before .before .args .store .now) (y .capacity .ensures) (c .if1 .left)
 
 all-below-requires : tie.Need-all-below-requires
-all-below-requires c κs = search needs
+all-below-requires c κs = store-here c .most
 
 same-length-2 : tie.Need-same-length-2
 same-length-2 c = search needs
