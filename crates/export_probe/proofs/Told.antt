@@ -13,8 +13,8 @@ abbrev kind : StepAnswer → ℕ
 kind a = a .which
 
 module _ (f : Step) {a : StepAnswer} where
-  pub answer-is : {t : Told} → a ≡ stepOf (t .answer) → t ≡ told f → a ≡ movedOf f
-  answer-is m e = m ∙ ap (λ (x : Told). stepOf (x .answer)) e
+  pub told-moved : {t : Told} → a ≡ stepOf (t .answer) → t ≡ told f → a ≡ movedOf f
+  told-moved m e = m ∙ ap (λ (x : Told). stepOf (x .answer)) e
 
   -- a refused step leaves the count
   pub reads-kept : (r : ℕ) → a ≡ movedOf f → a .which ≡ 0 → r ≡ readsLeft f r

@@ -63,20 +63,20 @@ module _ (a b c d cs : List ℕ) where
       evaluated : {w : ℕ} (k i : ℕ) → k ≤ top (cap a) → w ≡ machineWord N ss cs k i → w ≡ formulaWords ss cs k i
       evaluated k i h q = q ∙ ap (λ (x : ℕ). machineWord x ss cs k i) N-is ∙ machine-tree a b c d cs k i (accepted a b c d cs (sym n-is ∙ e)) h
 
-      pub contains-past : (i : ℕ) → N ≤ i → Settled askedPaper (formulaContainsOf ss cs i) (Is false) tt
+      pub formula-contains-past : (i : ℕ) → N ≤ i → Settled askedPaper (formulaContainsOf ss cs i) (Is false) tt
       unfolding formulaContainsOf
-      contains-past i h = settled (rw (← n-is, e, le-ltb i (cap a) (subst (λ (x : ℕ). x ≤ i) N-is h)))
+      formula-contains-past i h = settled (rw (← n-is, e, le-ltb i (cap a) (subst (λ (x : ℕ). x ≤ i) N-is h)))
 
-      pub contains-is : (i : ℕ) {w : ℕ} {r : Bool} → i < N → w ≡ machineWord N ss cs 0 (i / 64) → r ≡ eqb (bit w (i % 64)) 1
+      pub formula-contains-is : (i : ℕ) {w : ℕ} {r : Bool} → i < N → w ≡ machineWord N ss cs 0 (i / 64) → r ≡ eqb (bit w (i % 64)) 1
           → Settled askedPaper (formulaContainsOf ss cs i) (Is r) tt
       unfolding formulaContainsOf
-      contains-is i {w} h q r =
+      formula-contains-is i {w} h q r =
           let v : w ≡ formulaWords ss cs 0 (i / 64) = evaluated 0 (i / 64) (omega arith) q in
           settled (rw (← n-is, e, lt-ltb i (cap a) (subst (λ (x : ℕ). i < x) N-is h), ← v, ← r))
 
-      pub empty-is : {t w : ℕ} → t ≡ top N → w ≡ machineWord N ss cs t 0 → Settled askedPaper (formulaIsEmptyOf ss cs) (Is (eqb w 0)) tt
+      pub formula-empty-is : {t w : ℕ} → t ≡ top N → w ≡ machineWord N ss cs t 0 → Settled askedPaper (formulaIsEmptyOf ss cs) (Is (eqb w 0)) tt
       unfolding formulaIsEmptyOf
-      empty-is {t} {w} t-is q =
+      formula-empty-is {t} {w} t-is q =
           let T : t ≡ top (cap a) = t-is ∙ ap top N-is in
           let v : w ≡ formulaWords ss cs (top (cap a)) 0 = evaluated t 0 (omega (arith, T)) q ∙ ap (λ (x : ℕ). formulaWords ss cs x 0) T in
           settled (rw (← n-is, e, ← v))
@@ -133,16 +133,16 @@ module _ (a b c d cs : List ℕ) where
       unfolding checkOf
       passed = let t = none-refused z in rw (t .0, t .2)
 
-      pub word-top : {w : ℕ} (i : ℕ) → k ≡ t → w ≡ machineWord N ss cs t 0 → Settled readPaper (layerWordOf ss cs k i) (Word w) tt
+      pub layer-word-top : {w : ℕ} (i : ℕ) → k ≡ t → w ≡ machineWord N ss cs t 0 → Settled readPaper (layerWordOf ss cs k i) (Word w) tt
       unfolding layerWordOf
-      word-top {w} i h q =
+      layer-word-top {w} i h q =
           let z = none-refused z in
           let v : w ≡ formulaWords ss cs k 0 = evaluated (sym passed) refl N-is t 0 (omega (arith, t-is)) q ∙ ap (λ (x : ℕ). formulaWords ss cs x 0) (sym h) in
           settled (rw (← t-is, z .0, z .1, z .2, le-ltb k t (omega arith), ← v))
 
-      pub word-is : {w : ℕ} (i : ℕ) → k ≢ t → w ≡ machineWord N ss cs k i → Settled readPaper (layerWordOf ss cs k i) (Word w) tt
+      pub layer-word-is : {w : ℕ} (i : ℕ) → k ≢ t → w ≡ machineWord N ss cs k i → Settled readPaper (layerWordOf ss cs k i) (Word w) tt
       unfolding layerWordOf
-      word-is {w} i h q =
+      layer-word-is {w} i h q =
           let z = none-refused z in
           let v : w ≡ formulaWords ss cs k i = evaluated (sym passed) refl N-is k i (omega (arith, low, t-is)) q in
           settled (rw (← t-is, z .0, z .1, z .2, lt-ltb k t (omega (arith, low)), ← v))

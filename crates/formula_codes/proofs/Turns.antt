@@ -81,9 +81,9 @@ module _ (t d : ℕ) where
   unfolding waiting
   too-many l h = sym (rw (le-leb t d l, le-ltb (d - t) 8 h))
 
-  pub one-more : t ≤ d → d - t < 8 → d - t + 1 ≡ waiting t d
+  pub waits-one-more : t ≤ d → d - t < 8 → d - t + 1 ≡ waiting t d
   unfolding waiting
-  one-more l h = add-one (d - t) ∙ sym (rw (le-leb t d l, lt-ltb (d - t) 8 h))
+  waits-one-more l h = add-one (d - t) ∙ sym (rw (le-leb t d l, lt-ltb (d - t) 8 h))
 
 -- a code that may not stand there takes more than ever wait
 pub none-waits : {d t : ℕ} → d ≤ 8 → 9 ≡ t → 0 ≡ waiting t d
@@ -115,16 +115,16 @@ module _ {ls cs : List ℕ} {d j r : ℕ} (g : Counting ls cs d j) (more : j < l
       go true e = absurd (omega (arith, h, by-test true e))
       go false e = sym (rw e) ∙ here
 
-  pub goes-on : r ≢ 0 → Counting ls cs r (j + 1)
-  goes-on h = go (leb t d && ltb (d - t) 8) refl
+  pub counting-on : r ≢ 0 → Counting ls cs r (j + 1)
+  counting-on h = go (leb t d && ltb (d - t) 8) refl
     where
       go : (x : Bool) → (leb t d && ltb (d - t) 8) ≡ x → Counting ls cs r (j + 1)
       go true e = record { few = omega (arith, by-test true e, ltb-true (d - t) 8 (both (leb t d) (ltb (d - t) 8) e .1)); same = rw (add-one j, by-test true e) (sym (rw e) ∙ here) }
       go false e = absurd (h (by-test false e))
 
-pub all-done : {ls cs : List ℕ} {d j : ℕ} → Counting ls cs d j → length cs ≤ j → d ≡ left ls cs 0
+pub counting-done : {ls cs : List ℕ} {d j : ℕ} → Counting ls cs d j → length cs ≤ j → d ≡ left ls cs 0
 unfolding left
-all-done {ls} {cs} {d} g h = sym (ap (λ (l : List ℕ). left ls l d) (drop-of-length-le cs h)) ∙ g .same
+counting-done {ls} {cs} {d} g h = sym (ap (λ (l : List ℕ). left ls l d) (drop-of-length-le cs h)) ∙ g .same
 
 -- ---- the look for a code that cuts
 
@@ -139,6 +139,6 @@ module _ {cs : List ℕ} {j : ℕ} (g : Looking cs j) where
   pub cut-next : j < length cs → getD cs j 0 < 19 → Looking cs (j + 1)
   cut-next h l = record { same = ap (λ (n : ℕ). cutsIn (drop n cs)) (add-one j) ∙ sym (rw (lt-leb 19 (getD cs j 0) l)) ∙ this h }
 
-  pub cut-none : length cs ≤ j → false ≡ cutsIn cs
+  pub cuts-none : length cs ≤ j → false ≡ cutsIn cs
   unfolding cutsIn
-  cut-none h = sym (ap cutsIn (drop-of-length-le cs h)) ∙ g .same
+  cuts-none h = sym (ap cutsIn (drop-of-length-le cs h)) ∙ g .same

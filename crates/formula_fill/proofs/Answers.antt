@@ -34,16 +34,16 @@ module _ (a b c d cs : List ℕ) (k : Cursor) {n : ℕ} (n-is : n ≡ refusalIn 
   abbrev ss : List (List ℕ)
   ss = four a b c d
 
-  pub fill-refused : n ≢ 0 → {r : Batch} → r ≡ record { cursor = k; reads = 0; count = 0; stop = Refused n } → Settled batchPaper (formulaFillOf ss cs k m out) r out
+  pub formula-fill-refused : n ≢ 0 → {r : Batch} → r ≡ record { cursor = k; reads = 0; count = 0; stop = Refused n } → Settled batchPaper (formulaFillOf ss cs k m out) r out
   unfolding formulaFillIn
-  fill-refused h is =
+  formula-fill-refused h is =
       let w : formulaFillIn ss cs k m (length out) ≡ stopped (Refused n) 0 k = rw (← n-is, ne-eqb n 0 h) in
       settled (ap (λ (x : Filled). filled x out) w ∙ ap (λ (x : Batch). record { numbers = batchPaper .numbers x; lent = out }) (sym is))
 
-  pub fill-runs : n ≡ 0 → {N : ℕ} → N ≡ cap a → {r : Batch} {x : List ℕ} → Settled batchPaper (filled (fillFrom (machineWord N ss cs) topMost (length out) m k) out) r x
+  pub formula-fill-runs : n ≡ 0 → {N : ℕ} → N ≡ cap a → {r : Batch} {x : List ℕ} → Settled batchPaper (filled (fillFrom (machineWord N ss cs) topMost (length out) m k) out) r x
       → Settled batchPaper (formulaFillOf ss cs k m out) r x
   unfolding formulaFillIn
-  fill-runs h {N} N-is s =
+  formula-fill-runs h {N} N-is s =
       let z = none-refused a b c d cs k n-is h .0 in
       let w : formulaFillIn ss cs k m (length out) ≡ fillFrom (formulaWords ss cs) (top (cap a)) (length out) m k = rw (← n-is, h) in
       fill-answered out (ap (λ (t : ℕ). fillFrom (machineWord N ss cs) t (length out) m k) (sym (top-is (cap a)))

@@ -29,7 +29,7 @@ use Rattle.formula_codes.proofs.Accepted.{Beside, accepted}
 use Rattle.formula_ask.specs.Calls.{formulaWords, formulaContainsOf, formulaIsEmptyOf}
 use Rattle.formula_laws.specs.Members.{Among, heldBy, formulaMembers}
 use Rattle.formula_laws.specs.Sides.{Sounds, UnionCodes}
-use Rattle.formula_laws.proofs.Sets.{sound-none, tree-held, held-among, members-are, tree-ids}
+use Rattle.formula_laws.proofs.Sets.{sound-none, tree-held, held-among, tree-members-are, tree-ids}
 use Rattle.formula_laws.proofs.Shapes.{tree-two, tree-union}
 use Rattle.formula_laws.proofs.Trees.{tree-bounded, both-bits, tree-clear, union-full}
 
@@ -93,7 +93,7 @@ module _ (a b c d cs : List ℕ) (ok : checkOf (four a b c d) cs ≡ 0) (words :
     empty-none e i h m =
         let none = eqb-true _ 0 (said-yes (eqb (formulaWords ss cs (top (cap a)) 0) 0) (sym top-asked ∙ e)) in
         let nil = sym handed-out ∙ under-empty (formulaWords ss cs) (top (cap a)) 0 none in
-        List·Memᴰ·not-nil (subst (List·Memᴰ i) nil (members-are (cap a) ss (accepted a b c d cs ok .beside) (treeOf cs) i .1 (h, m)))
+        List·Memᴰ·not-nil (subst (List·Memᴰ i) nil (tree-members-are (cap a) ss (accepted a b c d cs ok .beside) (treeOf cs) i .1 (h, m)))
 
     -- ON ONE STORE OR A UNION OF STORES it says yes exactly there.
     pub union-empty : UnionCodes cs → (formulaIsEmptyOf ss cs ≡ says true tt) ↔ ((i : ℕ) → i < cap a → Among ss (treeOf cs) i → ⊥)
@@ -101,7 +101,7 @@ module _ (a b c d cs : List ℕ) (ok : checkOf (four a b c d) cs ≡ 0) (words :
       where
         from : ((i : ℕ) → i < cap a → Among ss (treeOf cs) i → ⊥) → formulaIsEmptyOf ss cs ≡ says true tt
         from none =
-            let nil = no-members (formulaMembers (cap a) ss (treeOf cs)) (λ i m. let t = members-are (cap a) ss (accepted a b c d cs ok .beside) (treeOf cs) i .0 m in none i (t .0) (t .1)) in
+            let nil = no-members (formulaMembers (cap a) ss (treeOf cs)) (λ i m. let t = tree-members-are (cap a) ss (accepted a b c d cs ok .beside) (treeOf cs) i .0 m in none i (t .0) (t .1)) in
             let full = union-full (cap a) ss (z .sound) (treeOf cs) (tree-union ss cs (accepted a b c d cs ok .formula) u) in
             let bounded = tree-bounded (cap a) ss (λ x. word-lt (cap a) (nth ss x) (words x)) (treeOf cs) in
             let w = under-none (formulaWords ss cs) (top (cap a)) bounded full (top (cap a)) (omega arith) 0 (handed-out ∙ nil) in

@@ -30,7 +30,7 @@ use Rattle.formula_laws.specs.Members.{Among, formulaMembers}
 use Rattle.formula_laws.specs.Sides.{Sounds, UnionCodes}
 use Rattle.formula_laws.specs.Walks.{nextOver, fillOver, callOver, walkOver, readsOf, FormulaWalked}
 use Rattle.formula_laws.proofs.Fewer.{both-reads}
-use Rattle.formula_laws.proofs.Sets.{tree-ids, members-are, tree-rises}
+use Rattle.formula_laws.proofs.Sets.{tree-ids, tree-members-are, tree-rises}
 use Rattle.formula_laws.proofs.Shapes.{tree-two, tree-union}
 use Rattle.formula_laws.proofs.Trees.{tree-bounded, union-full}
 
@@ -79,7 +79,7 @@ module _ (a b c d cs : List ℕ) (ok : checkOf (four a b c d) cs ≡ 0) (z : Sou
       record {
         members-all = m;
         exact = λ i. subst (λ (l : List ℕ). List·Memᴰ i l ↔ ((i < cap a) × Among ss (treeOf cs) i)) (sym m)
-            (members-are (cap a) ss (λ x. accepted a b c d cs ok .beside x) (treeOf cs) i);
+            (tree-members-are (cap a) ss (λ x. accepted a b c d cs ok .beside x) (treeOf cs) i);
         rising = subst (Rising 0) (sym m) (tree-rises (cap a) ss (treeOf cs));
         counted = ap (λ (x : Step). x .reads + w .total) (start-is k) ∙ r .1;
       }

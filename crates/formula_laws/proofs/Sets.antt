@@ -147,8 +147,8 @@ module _ (N : ℕ) (ss : List (List ℕ)) (fit : (c : ℕ) → Beside N (nth ss 
   held-among every i h = (λ q. tt, λ m. refl)
 
   -- THE MEMBERS: those ids, each once, rising.
-  pub members-are : (e : Tree) (i : ℕ) → List·Memᴰ i (formulaMembers N ss e) ↔ ((i < N) × Among ss e i)
-  members-are e i = (
+  pub tree-members-are : (e : Tree) (i : ℕ) → List·Memᴰ i (formulaMembers N ss e) ↔ ((i < N) × Among ss e i)
+  tree-members-are e i = (
     λ m. let t = places-in (heldBy N ss e) 0 N i m in let h : i < N = omega (arith, t .1) in (h, held-among e i h .0 (omega (arith, t .2, held-lt e i))),
     λ t. in-places (heldBy N ss e) 0 N i (omega arith) (omega (arith, t .0)) (λ z. omega (arith, z, held-among e i (t .0) .1 (t .1))),
   )

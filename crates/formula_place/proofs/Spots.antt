@@ -24,18 +24,18 @@ module _ (N k : ℕ) where
   unfolding endOf
   ends-soon = omega (arith, within (folded N) k, length-small {N = folded N} (omega arith) (omega arith))
 
-  pub words-are : {a e : ℕ} → e ≡ endOf N k → a ≡ endOf N (k + 1) → e - a ≡ wordsIn N k
+  pub words-in-are : {a e : ℕ} → e ≡ endOf N k → a ≡ endOf N (k + 1) → e - a ≡ wordsIn N k
   unfolding wordsIn
-  words-are e a = ap₂ _-_ e (a ∙ ap (endOf N) (add-one k))
+  words-in-are e a = ap₂ _-_ e (a ∙ ap (endOf N) (add-one k))
 
   pub place-fits : {a i w : ℕ} → w ≡ wordsIn N k → i < w → a ≡ endOf N (k + 1) → a + i < 1000000
   unfolding wordsIn
   place-fits w l a = omega (arith, ends-soon, starts-first, w, l, a, ap (endOf N) (add-one k))
 
 module _ (N k i : ℕ) {w : ℕ} (w-is : w ≡ wordsIn N k) where
-  pub place-in : {a : ℕ} → i < w → a ≡ endOf N (k + 1) → a + i ≡ placeOf N k i
+  pub spot-inside : {a : ℕ} → i < w → a ≡ endOf N (k + 1) → a + i ≡ placeOf N k i
   unfolding placeOf
-  place-in h a = ap (λ (x : ℕ). x + i) (a ∙ ap (endOf N) (add-one k)) ∙ sym (rw (lt-ltb i (wordsIn N k) (subst (λ (x : ℕ). i < x) w-is h)))
+  spot-inside h a = ap (λ (x : ℕ). x + i) (a ∙ ap (endOf N) (add-one k)) ∙ sym (rw (lt-ltb i (wordsIn N k) (subst (λ (x : ℕ). i < x) w-is h)))
 
   pub place-past : {a : ℕ} → w ≤ i → a ≡ endOf N 0 → a ≡ placeOf N k i
   unfolding placeOf

@@ -52,10 +52,10 @@ module _ (a b c d cs : List ℕ) where
     unfolding formulaStartIn
     start-refused h e = let w : formulaStartIn ss cs k ≡ refused n k = rw (← n-is, ne-eqb n 0 h) in answered (e ∙ sym w)
 
-    pub start-runs : n ≡ 0 → {N t w : ℕ} → N ≡ cap a → t ≡ top N → w ≡ machineWord N ss cs t 0 → {r : Step}
+    pub formula-start-runs : n ≡ 0 → {N t w : ℕ} → N ≡ cap a → t ≡ top N → w ≡ machineWord N ss cs t 0 → {r : Step}
         → r ≡ record { cursor = startAt topMost w; reads = 1; answer = Paused } → Settled stepPaper (formulaStartOf ss cs k) r tt
     unfolding formulaStartIn
-    start-runs h {N} {t} {w} N-is t-is w-is e =
+    formula-start-runs h {N} {t} {w} N-is t-is w-is e =
         let T : t ≡ top (cap a) = t-is ∙ ap top N-is in
         let v : w ≡ formulaWords ss cs (top (cap a)) 0 = w-is ∙ walked-words (sym n-is ∙ h) N-is t 0 (omega (arith, T)) ∙ ap (λ (x : ℕ). formulaWords ss cs x 0) T in
         let s : formulaStartIn ss cs k ≡ record { cursor = startAt (top (cap a)) (formulaWords ss cs (top (cap a)) 0); reads = 1; answer = Paused } = rw (← n-is, h) in
@@ -64,9 +64,9 @@ module _ (a b c d cs : List ℕ) where
   -- ---- next
 
   module _ (k : Cursor) {n : ℕ} (n-is : n ≡ refusalIn ss cs k) where
-    pub next-refused : (m : ℕ) → n ≢ 0 → {r : Step} → r ≡ refused n k → Settled stepPaper (formulaNextOf ss cs k m) r tt
+    pub formula-next-refused : (m : ℕ) → n ≢ 0 → {r : Step} → r ≡ refused n k → Settled stepPaper (formulaNextOf ss cs k m) r tt
     unfolding formulaNextIn
-    next-refused m h e = let w : formulaNextIn ss cs k m ≡ refused n k = rw (← n-is, ne-eqb n 0 h) in answered (e ∙ sym w)
+    formula-next-refused m h e = let w : formulaNextIn ss cs k m ≡ refused n k = rw (← n-is, ne-eqb n 0 h) in answered (e ∙ sym w)
 
     -- nothing is refused: the codes are a formula and the prefixes fit
     pub none-refused : n ≡ 0 → (checkOf ss cs ≡ 0) × (fits (top (cap a)) k ≡ true)
@@ -82,9 +82,9 @@ module _ (a b c d cs : List ℕ) where
     pub fine-here : n ≡ 0 → Fine topMost (k .prefix)
     fine-here h = subst (λ (t : ℕ). Fine t (k .prefix)) (top-is (cap a)) (fine-of (top (cap a)) (k .prefix) (none-refused h .1))
 
-    pub next-runs : (m : ℕ) → n ≡ 0 → {N : ℕ} → N ≡ cap a → {r : Step} → r ≡ next (machineWord N ss cs) topMost m k → Settled stepPaper (formulaNextOf ss cs k m) r tt
+    pub formula-next-runs : (m : ℕ) → n ≡ 0 → {N : ℕ} → N ≡ cap a → {r : Step} → r ≡ next (machineWord N ss cs) topMost m k → Settled stepPaper (formulaNextOf ss cs k m) r tt
     unfolding formulaNextIn
-    next-runs m h {N} N-is e =
+    formula-next-runs m h {N} N-is e =
         let z = none-refused h .0 in
         let w : formulaNextIn ss cs k m ≡ next (formulaWords ss cs) (top (cap a)) m k = rw (← n-is, h) in
         answered (e ∙ ap (λ (t : ℕ). next (machineWord N ss cs) t m k) (sym (top-is (cap a)))

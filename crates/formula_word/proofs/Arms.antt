@@ -193,12 +193,12 @@ evaluating-start k cut ws cs v e = record {
 }
 
 module _ {k cut : ℕ} {ws cs v : List ℕ} {d b j : ℕ} (g : Evaluating k cut ws cs v d b j) where
-  pub goes-on : {u : List ℕ} {t : Turn} → Turned k cut ws cs j v d b u t → Evaluating k cut ws cs u (t .place) (t .last) (t .next)
-  goes-on w = record { inside = w .inside; long = w .long ∙ g .long; same = w .same ∙ g .same }
+  pub evaluating-on : {u : List ℕ} {t : Turn} → Turned k cut ws cs j v d b u t → Evaluating k cut ws cs u (t .place) (t .last) (t .next)
+  evaluating-on w = record { inside = w .inside; long = w .long ∙ g .long; same = w .same ∙ g .same }
 
-  pub all-done : length cs ≤ j → b ≡ evaluated k cut ws cs begun
+  pub evaluating-done : length cs ≤ j → b ≡ evaluated k cut ws cs begun
   unfolding evaluated
-  all-done h = sym (ap (λ (l : List ℕ). evaluated k cut ws l (record { words = v; place = d; last = b })) (drop-of-length-le cs h)) ∙ g .same
+  evaluating-done h = sym (ap (λ (l : List ℕ). evaluated k cut ws l (record { words = v; place = d; last = b })) (drop-of-length-le cs h)) ∙ g .same
 
 pub three : (cs : List ℕ) → length cs ≡ 3 → cs ≡ getD cs 0 0 ∷ getD cs 1 0 ∷ getD cs 2 0 ∷ []
 three [] h = absurd (omega arith)

@@ -50,7 +50,7 @@ module _ (w : ℕ → ℕ) (k cut : ℕ) where
       let n = off (suc (length st)) (omega arith) (omega arith) in
       (getD-set-other v p (suc (length st)) y 0 n ∙ u .0, under-set v st p y (λ q a b. off q a (omega arith)) (u .1))
 
-  pub record Held (s : Stack) (st : List Tree) : Type 0 where
+  pub record HeldOn (s : Stack) (st : List Tree) : Type 0 where
     pub size : length (s .words) ≡ 8
     pub few : length st ≤ 8
     pub here : s .place ≡ length st % 8
@@ -68,7 +68,7 @@ module _ (w : ℕ → ℕ) (k cut : ℕ) where
     abbrev after : ℕ → ℕ → Stack
     after m b = record { words = put; place = (s .place + m) % 8; last = b }
 
-    pushed : (st : List Tree) (e : Tree) (b : ℕ) → length st < 8 → b ≡ value w k cut e → Held s st → Held (after 1 b) (e ∷ st)
+    pushed : (st : List Tree) (e : Tree) (b : ℕ) → length st < 8 → b ≡ value w k cut e → HeldOn s st → HeldOn (after 1 b) (e ∷ st)
     pushed st e b l eb h = record {
       size = length-set (s .words) (s .place) (s .last) ∙ h .size;
       few = omega arith;
@@ -85,7 +85,7 @@ module _ (w : ℕ → ℕ) (k cut : ℕ) where
             )
 
     held-joined : (st : List Tree) (a b e : Tree) (x : ℕ) → (below ≡ value w k cut a → s .last ≡ value w k cut b → x ≡ value w k cut e)
-        → Held s (b ∷ a ∷ st) → Held (after 7 x) (e ∷ st)
+        → HeldOn s (b ∷ a ∷ st) → HeldOn (after 7 x) (e ∷ st)
     held-joined st a b e x f h =
         let n : suc (suc (length st)) ≤ 8 = h .few in
         let i : (s .place + 7) % 8 ≡ suc (length st) = omega (arith, h .here) in
@@ -98,7 +98,7 @@ module _ (w : ℕ → ℕ) (k cut : ℕ) where
           tops = (f y (h .tops .0), under-set (s .words) st (s .place) (s .last) (λ z p q e. omega (arith, h .here)) (h .tops .1 .1));
         }
 
-    turned : (st : List Tree) (a e : Tree) (x : ℕ) → (s .last ≡ value w k cut a → x ≡ value w k cut e) → Held s (a ∷ st) → Held (after 0 x) (e ∷ st)
+    turned : (st : List Tree) (a e : Tree) (x : ℕ) → (s .last ≡ value w k cut a → x ≡ value w k cut e) → HeldOn s (a ∷ st) → HeldOn (after 0 x) (e ∷ st)
     turned st a e x f h = record {
       size = length-set (s .words) (s .place) (s .last) ∙ h .size;
       few = h .few;
@@ -110,20 +110,20 @@ module _ (w : ℕ → ℕ) (k cut : ℕ) where
 
   -- what a code leaves, where it takes t of the d that wait
   abbrev Left : Stack → List Tree → ℕ → ℕ → Type 0
-  Left s st d t = Held s st × (length st ≡ suc (d - t))
+  Left s st d t = HeldOn s st × (length st ≡ suc (d - t))
 
   two : (f : Tree → Tree → Tree) (s : Stack) (st : List Tree) (x : ℕ) → 2 ≤ length st
-      → ((a b : Tree) → below s ≡ value w k cut a → s .last ≡ value w k cut b → x ≡ value w k cut (f a b)) → Held s st → Left (after s 7 x) (joinTwo f st) (length st) 2
+      → ((a b : Tree) → below s ≡ value w k cut a → s .last ≡ value w k cut b → x ≡ value w k cut (f a b)) → HeldOn s st → Left (after s 7 x) (joinTwo f st) (length st) 2
   two f s [] x h g held = absurd (omega arith)
   two f s (b ∷ []) x h g held = absurd (omega arith)
   two f s (b ∷ a ∷ st) x h g held = (held-joined s st a b (f a b) x (g a b) held, omega arith)
 
-  one : (f : Tree → Tree) (s : Stack) (st : List Tree) (x : ℕ) → 1 ≤ length st → ((a : Tree) → s .last ≡ value w k cut a → x ≡ value w k cut (f a)) → Held s st
+  one : (f : Tree → Tree) (s : Stack) (st : List Tree) (x : ℕ) → 1 ≤ length st → ((a : Tree) → s .last ≡ value w k cut a → x ≡ value w k cut (f a)) → HeldOn s st
       → Left (after s 0 x) (turnOne f st) (length st) 1
   one f s [] x h g held = absurd (omega arith)
   one f s (a ∷ st) x h g held = (turned s st a (f a) x (g a) held, omega arith)
 
-  by-kind : (κ : CodeKind) (lent : Bool) (c x : ℕ) (s : Stack) (st : List Tree) → x ≡ w c → takes κ lent ≤ length st → length st - takes κ lent < 8 → Held s st
+  by-kind : (κ : CodeKind) (lent : Bool) (c x : ℕ) (s : Stack) (st : List Tree) → x ≡ w c → takes κ lent ≤ length st → length st - takes κ lent < 8 → HeldOn s st
       → Left (after s (moves κ) (madeOf κ x k cut (below s) (s .last))) (grow κ c st) (length st) (takes κ lent)
   unfolding moves madeOf value
   by-kind isStore true c x s st e h l held = (pushed s st (store c) x (omega (arith, l)) e held, omega arith)
@@ -136,7 +136,7 @@ module _ (w : ℕ → ℕ) (k cut : ℕ) where
   by-kind isUnknown lent c x s st e h l held = absurd (omega (arith, held .few))
 
   -- THE CODES, from any trees that wait on: where one value is left, it is the tree's
-  pub leaves-value : (ls ws cs : List ℕ) → ((c : ℕ) → getD ws c 0 ≡ w c) → (s : Stack) (st : List Tree) → Held s st → left ls cs (length st) ≡ 1
+  pub leaves-value : (ls ws cs : List ℕ) → ((c : ℕ) → getD ws c 0 ≡ w c) → (s : Stack) (st : List Tree) → HeldOn s st → left ls cs (length st) ≡ 1
       → evaluated k cut ws cs s ≡ value w k cut (firstTree (trees cs st))
   unfolding left trees evaluated takesIn stepped
   leaves-value ls ws [] is s [] held e = absurd (omega (arith, e))

@@ -29,18 +29,18 @@ module _ (a b c d cs : List ℕ) where
   word-at-is k cut at e0 e1 e2 e3 r = r ∙ rw (e0, e1, e2, e3)
 
   module _ (N layer i : ℕ) where
-    pub word-is : {at cut r : ℕ} → at ≡ placeOf N (layer % suc topMost) i → cut ≡ existing (placesIn N (layer % suc topMost)) i
+    pub machine-word-is : {at cut r : ℕ} → at ≡ placeOf N (layer % suc topMost) i → cut ≡ existing (placesIn N (layer % suc topMost)) i
         → r ≡ wordAt (four a b c d) cs (layer % suc topMost) cut at → r ≡ machineWord N (four a b c d) cs layer i
     unfolding machineWord
-    word-is at cut r = r ∙ ap₂ (wordAt (four a b c d) cs (layer % suc topMost)) cut at
+    machine-word-is at cut r = r ∙ ap₂ (wordAt (four a b c d) cs (layer % suc topMost)) cut at
 
     -- the bits that exist are looked up only where some code looks at them
     pub word-cut-is : {at cut r : ℕ} {x : Bool} → at ≡ placeOf N (layer % suc topMost) i → x ≡ cutsIn cs → cut ≡ cond x (existing (placesIn N (layer % suc topMost)) i) 0
         → r ≡ wordAt (four a b c d) cs (layer % suc topMost) cut at → r ≡ machineWord N (four a b c d) cs layer i
     unfolding wordAt
-    word-cut-is {at} {cut} {x = true} e x-is cut-is r = word-is e cut-is r
+    word-cut-is {at} {cut} {x = true} e x-is cut-is r = machine-word-is e cut-is r
     word-cut-is {at} {cut} {x = false} e x-is cut-is r =
-        word-is e refl (r ∙ uncut (layer % suc topMost) cut (existing (placesIn N (layer % suc topMost)) i) (map (λ s. getD s at 0) (four a b c d)) cs begun (sym x-is))
+        machine-word-is e refl (r ∙ uncut (layer % suc topMost) cut (existing (placesIn N (layer % suc topMost)) i) (map (λ s. getD s at 0) (four a b c d)) cs begun (sym x-is))
 
 -- a word of each of a list of slices, and of one by its number
 each : (f : List ℕ → ℕ) (ss : List (List ℕ)) (c : ℕ) → f [] ≡ 0 → getD (map f ss) c 0 ≡ f (nth ss c)

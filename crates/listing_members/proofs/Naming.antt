@@ -36,16 +36,16 @@ pub ids-none : (buf : List ℕ) (at : ℕ) (ids : List ℕ) → PuttingIds buf a
 ids-none buf at ids = record { inside = omega arith; long = refl; same = refl }
 
 module _ {buf₀ : List ℕ} {at : ℕ} {ids buf : List ℕ} {filled i : ℕ} (p : PuttingIds buf₀ at ids buf filled i) where
-  pub puts-end : length ids ≤ i → holding buf filled ≡ putAllOf buf₀ at (idsOf ids)
+  pub ids-end : length ids ≤ i → holding buf filled ≡ putAllOf buf₀ at (idsOf ids)
   unfolding putAllOf idsOf
-  puts-end h =
+  ids-end h =
       let e : i ≡ length ids = omega (arith, p .inside) in
       sym (ap (λ (k : ℕ). putAllOf buf filled (idsOf (drop k ids))) e ∙ ap (λ (l : List ℕ). putAllOf buf filled (idsOf l)) (drop-length ids)) ∙ p .same
 
-  pub puts-turn : i < length ids → {buf′ : List ℕ} {filled′ : ℕ} → length buf′ ≡ length buf → holding buf′ filled′ ≡ putAllOf buf filled (32 ∷ decimalOf (getD ids i 0))
+  pub ids-turn : i < length ids → {buf′ : List ℕ} {filled′ : ℕ} → length buf′ ≡ length buf → holding buf′ filled′ ≡ putAllOf buf filled (32 ∷ decimalOf (getD ids i 0))
       → PuttingIds buf₀ at ids buf′ filled′ (i + 1)
   unfolding idsOf
-  puts-turn h l e =
+  ids-turn h l e =
       let rest = idsOf (drop (i + 1) ids) in
       record {
         inside = omega arith;
@@ -63,9 +63,9 @@ pub record NamingFrom (t buf₀ : List ℕ) (at : ℕ) (ids : List ℕ) (c : Cur
   pub long : length buf ≡ length buf₀
   pub same : putAllOf buf filled (idsOf (ahead t c)) ≡ putAllOf buf₀ at (idsOf (walked t))
 
-pub naming-start : (t : List ℕ) → isStore t ≡ true → Words64 t → (buf : List ℕ) (at : ℕ) {ids : List ℕ} (c : Cursor) → length ids ≡ 64
+pub naming-begins : (t : List ℕ) → isStore t ≡ true → Words64 t → (buf : List ℕ) (at : ℕ) {ids : List ℕ} (c : Cursor) → length ids ≡ 64
     → c ≡ startedOf t → NamingFrom t buf at ids c buf at
-naming-start t is small buf at c l e =
+naming-begins t is small buf at c l e =
     let a = at-start t is small c l e in
     record { stands = a .0; long = refl; same = ap (λ (x : List ℕ). putAllOf buf at (idsOf x)) (a .1) }
 
@@ -85,8 +85,8 @@ module _ {t buf₀ : List ℕ} {at : ℕ} {ids : List ℕ} {c : Cursor} {buf : L
   unfolding putAllOf idsOf
   all-put h = sym (ap (λ (l : List ℕ). putAllOf buf′ filled′ (idsOf l)) (nothing-ahead u h)) ∙ rest-is
 
-  pub going-on : length buf′ ≡ length buf → NamingFrom t buf₀ at out (r .cursor) buf′ filled′
-  going-on l = record { stands = u .at; long = l ∙ g .long; same = rest-is }
+  pub naming-on : length buf′ ≡ length buf → NamingFrom t buf₀ at out (r .cursor) buf′ filled′
+  naming-on l = record { stands = u .at; long = l ∙ g .long; same = rest-is }
 
 -- ---- the line
 
@@ -94,12 +94,12 @@ pub line-refused : (s : List ℕ) → isStore s ≡ false → refusedLine ≡ me
 unfolding membersLine
 line-refused s h = sym (rw h)
 
-pub line-is : (s : List ℕ) → isStore s ≡ true → lineOf (walked s) ≡ membersLine s
+pub members-line-is : (s : List ℕ) → isStore s ≡ true → lineOf (walked s) ≡ membersLine s
 unfolding membersLine
-line-is s h = sym (rw h)
+members-line-is s h = sym (rw h)
 
 -- `w`, the ids and the newline, put one behind the other
 pub whole-line : (s buf₀ : List ℕ) (at₀ : ℕ) → isStore s ≡ true → {buf₁ buf₂ buf₃ : List ℕ} {at₁ at₂ at₃ : ℕ} → holding buf₁ at₁ ≡ putOf buf₀ at₀ 119
     → holding buf₂ at₂ ≡ putAllOf buf₁ at₁ (idsOf (walked s)) → holding buf₃ at₃ ≡ putOf buf₂ at₂ 10 → holding buf₃ at₃ ≡ putAllOf buf₀ at₀ (membersLine s)
 whole-line s buf₀ at₀ is e f g =
-    put-front buf₀ at₀ 119 (idsOf (walked s) ++ (10 ∷ [])) e (put-behind _ _ (idsOf (walked s)) 10 f g) ∙ ap (putAllOf buf₀ at₀) (line-is s is)
+    put-front buf₀ at₀ 119 (idsOf (walked s) ++ (10 ∷ [])) e (put-behind _ _ (idsOf (walked s)) 10 f g) ∙ ap (putAllOf buf₀ at₀) (members-line-is s is)

@@ -8,7 +8,7 @@ use Rattle.store.specs.Word.{members, Sound, Words64}
 use Rattle.store.proofs.Members.{members-are, members-rise}
 use Rattle.walk_laws.proofs.Store.{ids-members}
 use Rattle.listing_members.specs.Members.{lineOf, Named}
-use Rattle.listing_members.proofs.Naming.{line-is}
+use Rattle.listing_members.proofs.Naming.{members-line-is}
 
 pub line-members : (s : List ℕ) → isStore s ≡ true → Words64 s → Sound (cap s) s → Named s (members s)
-line-members s is small z = record { line = sym (line-is s is) ∙ ap lineOf (ids-members s is small z); exact = members-are s; rising = members-rise s }
+line-members s is small z = record { line = sym (members-line-is s is) ∙ ap lineOf (ids-members s is small z); exact = members-are s; rising = members-rise s }

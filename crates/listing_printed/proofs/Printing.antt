@@ -38,8 +38,8 @@ inside-by false true false = record { from-to = omega arith; to-end = omega arit
 inside-by false false true = record { from-to = omega arith; to-end = omega arith; has = refl }
 inside-by false false false = record { from-to = omega arith; to-end = omega arith; has = refl }
 
-pub inside : (letter : ℕ) (held : Bool) → InSpan (replyWord letter held) (spanOf letter held)
-inside letter held = inside-by (eqb letter 97) (eqb letter 114) held
+pub in-span : (letter : ℕ) (held : Bool) → InSpan (replyWord letter held) (spanOf letter held)
+in-span letter held = inside-by (eqb letter 97) (eqb letter 114) held
 
 -- ---- the pieces of a line
 

@@ -11,8 +11,8 @@ use Rattle.listing_printed.specs.Reply.{replyOf}
 use Rattle.listing_replies.specs.Replies.{afterOf, replyLine, printedOf}
 
 -- the answer of a call is read off its outcome's numbers
-pub answer-is : {X : Type 0} {o : Outcome X} {r : Asked} {x : X} (letter id : ℕ) → Settled askedPaper o r x → replyOf letter id r ≡ replyLine letter id o
-answer-is {o = o} {r = r} letter id a = ap (replyOf letter id) (sym (askedPaper .same r) ∙ ap (askedPaper .answer) (a .answer))
+pub reply-printed : {X : Type 0} {o : Outcome X} {r : Asked} {x : X} (letter id : ℕ) → Settled askedPaper o r x → replyOf letter id r ≡ replyLine letter id o
+reply-printed {o = o} {r = r} letter id a = ap (replyOf letter id) (sym (askedPaper .same r) ∙ ap (askedPaper .answer) (a .answer))
 
 -- an arm of command x: what it printed and left
 pub arm : (s buf : List ℕ) (at n : ℕ) {c x : Command} {h : Held} {t : List ℕ} → c ≡ x → h ≡ putAllOf buf at (printedOf s x n) → t ≡ afterOf s x

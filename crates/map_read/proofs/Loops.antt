@@ -134,16 +134,16 @@ module _ {t : List ℕ} {N n lo s j : ℕ} (h : Judged t N n lo s j) where
 
 -- ---- the words put at their places
 
-pub record Entered (ws₀ t : List ℕ) (n : ℕ) (ws : List ℕ) (j : ℕ) : Type 0 where
+pub record EntriesAt (ws₀ t : List ℕ) (n : ℕ) (ws : List ℕ) (j : ℕ) : Type 0 where
   pub upto : j ≤ n
   pub long : length ws ≡ length ws₀
   pub rest : fillTable ws (n - j) (drop (12 * j) t) ≡ fillTable ws₀ n t
 
-pub placed-start : {ws t : List ℕ} {n : ℕ} → Entered ws t n ws 0
+pub placed-start : {ws t : List ℕ} {n : ℕ} → EntriesAt ws t n ws 0
 placed-start {ws} {t} {n} = record { upto = omega arith; long = refl; rest = rw sub-zero }
 
-module _ {ws₀ t : List ℕ} {n : ℕ} {ws : List ℕ} {j : ℕ} (h : Entered ws₀ t n ws j) where
-  pub placed-turn : {q w : ℕ} → Entry t n j q w → (ws′ : List ℕ) → ws′ ≡ set ws q w → Entered ws₀ t n ws′ (j + 1)
+module _ {ws₀ t : List ℕ} {n : ℕ} {ws : List ℕ} {j : ℕ} (h : EntriesAt ws₀ t n ws j) where
+  pub placed-turn : {q w : ℕ} → Entry t n j q w → (ws′ : List ℕ) → ws′ ≡ set ws q w → EntriesAt ws₀ t n ws′ (j + 1)
   placed-turn {q} {w} e ws′ is =
       let b : j + 1 ≡ suc j = omega arith in
       rw (b, is) (record {

@@ -48,9 +48,9 @@ module _ {N : ℕ} {s : List ℕ} (z : StoreOf N s) {a : ℕ} (l : Lent0 N s a) 
       }
 
   -- with the last word cut they are the words of the definition
-  pub words-are : Words64 s → {last : ℕ} → last ≡ getD (lent s a) (length (lent s a) - 1) 0 % 2 ^ room0 N (length (lent s a) - 1)
+  pub layer-words-are : Words64 s → {last : ℕ} → last ≡ getD (lent s a) (length (lent s a) - 1) 0 % 2 ^ room0 N (length (lent s a) - 1)
       → withLast (lent s a) last ≡ toldWords N s
-  words-are small {last} last-is =
+  layer-words-are small {last} last-is =
       ap (withLast (lent s a)) last-is
       ∙ kept-with-last N (lent s a) (z .some) long-lent (λ x. rw (l .words, getD-drop (layerStart N 0) s x 0) (small (layerStart N 0 + x)))
       ∙ ap (keptFrom N 0) (l .words)

@@ -86,7 +86,8 @@ fn put_four(layer: &[u64], q: usize, buf: &mut [u8], o: usize, members: u64) -> 
 // The entries of the first words, four a turn, behind the header's place.
 fn put_fours(layer: &[u64], fours: usize, buf: &mut [u8]) -> Spot
     requires { ⌜ Rooms (now layer) 0 (4 * fours) (draftAt 16 0 (now buf)) ⌝ }
-    ensures { λ r. ⌜ Entered 0 (wordsFrom 0 (4 * fours) (now (layer .entry))) (draftAt 16 0 (now (buf .entry))) (draftTo r (now (buf .exit))) ⌝ }
+    ensures { λ r. ⌜ (let ws = wordsFrom 0 (4 * fours) (now (layer .entry)) in
+        Entered 0 ws (draftAt 16 0 (now (buf .entry))) (draftTo r (now (buf .exit)))) ⌝ }
 {
     let mut members = 0u64;
     let mut o = 16usize;

@@ -37,5 +37,5 @@ module _ {s t ids out : List ℕ} {b : ℕ} {c : Cursor} {r : Batch} (g : Holdin
     unfolding allHeld
     all-there e = sym (ap (allHeld s) (nothing-ahead u e)) ∙ rest-is
 
-    pub going-on : Holding s t out (r .cursor)
-    going-on = record { at = u .at; same = rest-is }
+    pub holding-on : Holding s t out (r .cursor)
+    holding-on = record { at = u .at; same = rest-is }

@@ -126,7 +126,7 @@ gather-goes-on line len piece from h = go (decLt end (length piece))
     go (yes l) = rw (lt-ltb end (length piece) l) (omega arith, omega arith)
     go (no l) = let u : length piece ≤ end = omega arith in rw (le-ltb end (length piece) u) (omega (arith, inside), inside)
 
-pub goes-on : (line : List ℕ) (len : ℕ) (piece : List ℕ) (from : ℕ) {t : Taken} → t ≡ gatherOf line len piece from
+pub line-goes-on : (line : List ℕ) (len : ℕ) (piece : List ℕ) (from : ℕ) {t : Taken} → t ≡ gatherOf line len piece from
     → from < length piece
     → (from < t .answer .next) × (t .answer .next ≤ length piece)
-goes-on line len piece from e h = rw e (gather-goes-on line len piece from h)
+line-goes-on line len piece from e h = rw e (gather-goes-on line len piece from h)

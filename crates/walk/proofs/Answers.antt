@@ -97,13 +97,13 @@ module _ {N : ℕ} {s : List ℕ} (z : StoreOf N s) (c : Cursor) where
       ∙ ap (λ (t : ℕ). next (word N s) t b c) (sym (top-is N)) ∙ next-runs b h
 
   -- the start on a store
-  pub start-is : startIn s c ≡ record { cursor = startAt (top N) (word N s (top N) 0); reads = 1; answer = Paused }
+  pub started-is : startIn s c ≡ record { cursor = startAt (top N) (word N s (top N) 0); reads = 1; answer = Paused }
   unfolding startIn
-  start-is = rw (is-store z, z .names)
+  started-is = rw (is-store z, z .names)
 
   pub start-runs : (w : ℕ) → w ≡ topWord s → record { cursor = startAt topMost w; reads = 1; answer = Paused } ≡ startIn s c
   start-runs w h =
-      ap₂ (λ (t x : ℕ). record { cursor = startAt t x; reads = 1; answer = Paused }) (sym (top-is N)) (h ∙ top-word z) ∙ sym start-is
+      ap₂ (λ (t x : ℕ). record { cursor = startAt t x; reads = 1; answer = Paused }) (sym (top-is N)) (h ∙ top-word z) ∙ sym started-is
 
 -- next refused, by the number that was found
 pub next-refused : (s : List ℕ) {N n : ℕ} (c : Cursor) (b : ℕ) → N ≡ capacityOf s → n ≡ refusalOf N (fits (top N) c) → n ≢ 0 → refused n c ≡ nextIn s c b

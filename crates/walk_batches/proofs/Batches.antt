@@ -15,7 +15,7 @@ use Rattle.walk.specs.Calls.{Fine}
 use Rattle.walk.specs.Walk.{startAt}
 use Rattle.walk.specs.declared.Cursor.{Cursor}
 use Rattle.walk.specs.declared.Step.{Step}
-use Rattle.walk.proofs.Answers.{start-is}
+use Rattle.walk.proofs.Answers.{started-is}
 use Rattle.walk_fill.specs.Fill.{Filled, batchPaper, batch, fillFrom, fillIn, fillOf}
 use Rattle.walk_fill.specs.declared.Batch.{Batch}
 use Rattle.walk_fill.specs.declared.Stop.{Stop}
@@ -70,7 +70,7 @@ module _ (t : List ℕ) (is : isStore t ≡ true) (small : Words64 t) where
   pub at-start : {ids : List ℕ} (c : Cursor) → length ids ≡ 64 → c ≡ startedOf t → At t ids c × (ahead t c ≡ walked t)
   at-start {ids} c l e =
       let w = lw k 0 in
-      let q : c ≡ startAt k w = e ∙ ap (λ (x : Step). x .cursor) (start-is (store-is is) (startAt topMost 0)) in
+      let q : c ≡ startAt k w = e ∙ ap (λ (x : Step). x .cursor) (started-is (store-is is) (startAt topMost 0)) in
       subst (λ (x : Cursor). At t ids x × (ahead t x ≡ walked t)) (sym q) (
         record { wf = start-wf k w (word-lt (cap t) t small k 0); fine = start-fine k w; long = l },
         start-rest lw k,

@@ -18,7 +18,7 @@ use Rattle.walk.specs.Calls.{startIn}
 use Rattle.walk.specs.Walk.{startAt}
 use Rattle.walk.specs.declared.Cursor.{Cursor}
 use Rattle.walk.specs.declared.Step.{Step}
-use Rattle.walk.proofs.Answers.{start-is, next-runs}
+use Rattle.walk.proofs.Answers.{started-is, next-runs}
 use Rattle.walk.proofs.Cursors.{fit-of}
 use Rattle.walk_fill.proofs.Fills.{fill-runs}
 use Rattle.walk_laws.specs.Calls.{Ask, Some, Run, runBy, AllStopped, Nexts, Fills}
@@ -71,7 +71,7 @@ module _ (s : List ℕ) (is : isStore s ≡ true) (small : Words64 s) where
   fill-is b m c f = sym (fill-runs (store-is is) c b m (fit-of t (c .prefix) f))
 
   start-cursor : (c : Cursor) → startIn s c .cursor ≡ startAt t (lw t 0)
-  start-cursor c = ap (λ (x : Step). x .cursor) (start-is (store-is is) c)
+  start-cursor c = ap (λ (x : Step). x .cursor) (started-is (store-is is) c)
 
   from-start : (c : Cursor) (l : List Ask) → walkOn s c l ≡ runBy (callOn s) (startAt t (lw t 0)) l
   from-start c l = ap (λ (x : Cursor). runBy (callOn s) x l) (start-cursor c)
@@ -88,7 +88,7 @@ module _ (s : List ℕ) (is : isStore s ≡ true) (small : Words64 s) where
       let w = from-start c l in
       let r = calls-defined lw (word-lt (cap s) s small) t (nextOn s) (fillOn s) next-is fill-is l (sym (ap (λ (x : Run). x .over) w) ∙ e) in (
         ap (λ (x : Run). x .members) w ∙ r .0,
-        ap₂ (λ (x : Step) (y : Run). x .reads + y .total) (start-is (store-is is) c) w ∙ r .1,
+        ap₂ (λ (x : Step) (y : Run). x .reads + y .total) (started-is (store-is is) c) w ∙ r .1,
       )
 
   pub walk-over : (c : Cursor) (l : List Ask) → Some l → allReads lw t + length (allIds lw t) ≤ length l → walkOn s c l .over ≡ true

@@ -12,7 +12,7 @@ use Rattle.walk.specs.declared.Cursor.{Cursor}
 use Rattle.walk.specs.declared.Next.{Next}
 use Rattle.walk.specs.declared.Next.the-variants.{Member, Paused, End, Refused}
 use Rattle.walk.specs.declared.Step.{Step}
-use Rattle.walk.proofs.Answers.{start-is}
+use Rattle.walk.proofs.Answers.{started-is}
 use Rattle.walk_fill.specs.Fill.{stopped, goOn}
 use Rattle.walk_fill.specs.declared.Stop.the-variants.{Full}
 use Rattle.walk_laws.specs.Calls.{alone, Run, onward, runBy}
@@ -49,7 +49,7 @@ module _ (s : List ℕ) (bs : List ℕ) where
   pub reader-total : isStore s ≡ true → Words64 s → readerRun s bs .over ≡ true → 1 + readerRun s bs .total ≡ allReads (word (cap s) s) (top (cap s))
   reader-total is small e =
       let d = walk-defined s is small (startAt topMost 0) (map one bs) (sym (ap (λ (w : Run). w .over) run-is) ∙ e) in
-      let r : startIn s (startAt topMost 0) .reads ≡ 1 = ap (λ (a : Step). a .reads) (start-is (store-is is) (startAt topMost 0)) in
+      let r : startIn s (startAt topMost 0) .reads ≡ 1 = ap (λ (a : Step). a .reads) (started-is (store-is is) (startAt topMost 0)) in
       ap (λ (w : Run). 1 + w .total) run-is ∙ ap (λ (n : ℕ). n + walkOn s (startAt topMost 0) (map one bs) .total) (sym r) ∙ d .1
 
   -- of a sound store it has told exactly the members, ascending

@@ -1,7 +1,7 @@
 -- `export_probe::fen_probe_first` meets its contract. Assumes nothing.
 use borrow.Author.Needs.{needs}
 use Rattle.export_probe.specs.First.{firstIn}
-use Rattle.export_probe.proofs.Told.{answer-is, reads-kept, reads-told}
+use Rattle.export_probe.proofs.Told.{told-moved, reads-kept, reads-told}
 use Rattle.export_probe.proofs.fen_probe_first.Statement.{statement}
 use Rattle.export_probe.proofs.fen_probe_first.Tie as tie
 
@@ -16,7 +16,7 @@ returns c =
     let m = c .before .before in
     let a = m .before .before .before .args in
     let f = firstIn (a .store .now) (a .budget) in
-    let e = answer-is f (m .moved .ensures) (m .before .first .ensures) in
+    let e = told-moved f (m .moved .ensures) (m .before .first .ensures) in
     (e, reads-kept f _ e (c .if1 .taken))
 
 returns-2 : tie.Need-returns-2
@@ -24,7 +24,7 @@ returns-2 c =
     let m = c .before .before in
     let a = m .before .before .before .args in
     let f = firstIn (a .store .now) (a .budget) in
-    let e = answer-is f (m .moved .ensures) (m .before .first .ensures) in
+    let e = told-moved f (m .moved .ensures) (m .before .first .ensures) in
     (e, reads-told f _ e (m .before .first .ensures) (c .if1 .left))
 
 pub fen-probe-first-spec : {M : Type 1} → statement M

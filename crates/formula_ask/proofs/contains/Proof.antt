@@ -1,7 +1,7 @@
 -- `contains` meets its contract. Assumes nothing.
 use borrow.Author.Needs.{needs}
 use denote.Ref.{now}
-use Rattle.formula_ask.proofs.Answers.{contains-refused, contains-past, contains-is}
+use Rattle.formula_ask.proofs.Answers.{contains-refused, formula-contains-past, formula-contains-is}
 use Rattle.formula_ask.proofs.contains.Statement.{statement}
 use Rattle.formula_ask.proofs.contains.Tie as tie
 
@@ -21,7 +21,7 @@ returns-2 c =
     let g = c .before in
     let e = g .before in
     let a = e .before .before .before .before .before .before .before .args in
-    contains-past (a .s0 .now) (a .s1 .now) (a .s2 .now) (a .s3 .now) (a .codes .now) (e .before .check .ensures) (e .if1 .left) (g .named .ensures) (a .id) (c .if2 .taken)
+    formula-contains-past (a .s0 .now) (a .s1 .now) (a .s2 .now) (a .s3 .now) (a .codes .now) (e .before .check .ensures) (e .if1 .left) (g .named .ensures) (a .id) (c .if2 .taken)
 
 word-requires : tie.Need-word-requires
 word-requires c κs = search needs
@@ -36,7 +36,7 @@ returns-3 c =
     let g = l .before in
     let e = g .before in
     let a = e .before .before .before .before .before .before .before .args in
-    contains-is (a .s0 .now) (a .s1 .now) (a .s2 .now) (a .s3 .now) (a .codes .now) (e .before .check .ensures) (e .if1 .left) (g .named .ensures) (a .id) (l .if2 .left) (w .word .ensures) (c .is-set .ensures)
+    formula-contains-is (a .s0 .now) (a .s1 .now) (a .s2 .now) (a .s3 .now) (a .codes .now) (e .before .check .ensures) (e .if1 .left) (g .named .ensures) (a .id) (l .if2 .left) (w .word .ensures) (c .is-set .ensures)
 
 pub contains-spec : {M : Type 1} → statement M
 contains-spec =

@@ -1,5 +1,5 @@
 -- `is_empty` meets its contract. Assumes nothing.
-use Rattle.formula_ask.proofs.Answers.{empty-refused, empty-is}
+use Rattle.formula_ask.proofs.Answers.{empty-refused, formula-empty-is}
 use borrow.Author.Needs.{needs}
 use Rattle.formula_ask.proofs.is_empty.Statement.{statement}
 use Rattle.formula_ask.proofs.is_empty.Tie as tie
@@ -27,7 +27,7 @@ returns-2 c =
     let g = t .before in
     let e = g .before in
     let a = e .before .before .before .before .before .before .before .args in
-    empty-is (a .s0 .now) (a .s1 .now) (a .s2 .now) (a .s3 .now) (a .codes .now) (e .before .check .ensures) (e .if1 .left) (g .named .ensures) (t .top .ensures) (c .word .ensures)
+    formula-empty-is (a .s0 .now) (a .s1 .now) (a .s2 .now) (a .s3 .now) (a .codes .now) (e .before .check .ensures) (e .if1 .left) (g .named .ensures) (t .top .ensures) (c .word .ensures)
 
 pub is-empty-spec : {M : Type 1} → statement M
 is-empty-spec =

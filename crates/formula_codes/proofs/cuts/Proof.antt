@@ -5,7 +5,7 @@ use native.Mathlib.Omega.{arith}
 use borrow.Author.Needs.{needs}
 use lib.ListN.{length}
 use Rattle.formula_codes.specs.Steps.{Looking}
-use Rattle.formula_codes.proofs.Turns.{cut-found, cut-next, cut-none}
+use Rattle.formula_codes.proofs.Turns.{cut-found, cut-next, cuts-none}
 use Rattle.formula_codes.proofs.cuts.Statement.{statement}
 use Rattle.formula_codes.proofs.cuts.Tie as tie
 
@@ -34,7 +34,7 @@ loop-again : tie.Need-loop-again Inv-loop μ-loop
 loop-again c = let l = c .before .before in cut-next (l .before .loop .inv) (l .loop-test .taken) (c .if1 .left)
 
 returns-2 : tie.Need-returns-2 Inv-loop μ-loop
-returns-2 c = cut-none (c .before .loop .inv) (c .loop-test .left)
+returns-2 c = cuts-none (c .before .loop .inv) (c .loop-test .left)
 
 pub cuts-spec : {M : Type 1} → statement M
 cuts-spec =

@@ -4,7 +4,7 @@ use native.Mathlib.Omega.{arith}
 use borrow.Author.Needs.{needs}
 use lib.ListN.{length}
 use Rattle.formula_codes.specs.Steps.{Counting}
-use Rattle.formula_codes.proofs.Turns.{counting-start, stops, goes-on, all-done}
+use Rattle.formula_codes.proofs.Turns.{counting-start, stops, counting-on, counting-done}
 use Rattle.formula_codes.proofs.left.Statement.{statement}
 use Rattle.formula_codes.proofs.left.Tie as tie
 
@@ -33,10 +33,10 @@ loop-less : tie.Need-loop-less Inv-loop μ-loop
 loop-less c = omega (arith, c .before .before .before .loop-test .taken)
 
 loop-again : tie.Need-loop-again Inv-loop μ-loop
-loop-again c = let t = c .before in goes-on (t .before .before .before .loop .inv) (t .before .before .loop-test .taken) (t .after .ensures) (c .if1 .left)
+loop-again c = let t = c .before in counting-on (t .before .before .before .loop .inv) (t .before .before .loop-test .taken) (t .after .ensures) (c .if1 .left)
 
 returns-2 : tie.Need-returns-2 Inv-loop μ-loop
-returns-2 c = all-done (c .before .loop .inv) (c .loop-test .left)
+returns-2 c = counting-done (c .before .loop .inv) (c .loop-test .left)
 
 pub left-spec : {M : Type 1} → statement M
 left-spec =

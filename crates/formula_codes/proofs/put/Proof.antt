@@ -1,6 +1,6 @@
 -- `put` meets its contract. Assumes nothing.
 use borrow.Author.Needs.{needs}
-use Rattle.formula_codes.proofs.Turns.{too-few, too-many, one-more}
+use Rattle.formula_codes.proofs.Turns.{too-few, too-many, waits-one-more}
 use Rattle.formula_codes.proofs.put.Statement.{statement}
 use Rattle.formula_codes.proofs.put.Tie as tie
 
@@ -14,7 +14,7 @@ add-result : tie.Need-add-result
 add-result c = search needs
 
 returns-3 : tie.Need-returns-3
-returns-3 c = one-more _ _ (c .before .if1 .left) (c .if2 .left)
+returns-3 c = waits-one-more _ _ (c .before .if1 .left) (c .if2 .left)
 
 pub put-spec : {M : Type 1} → statement M
 put-spec = tie.close (tie.spec returns returns-2 add-result returns-3)

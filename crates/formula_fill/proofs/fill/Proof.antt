@@ -6,7 +6,7 @@ use Rattle.formula_walk.specs.Calls.{refusalIn}
 use Rattle.formula_walk.proofs.Answers.{refusal-formula, refusal-cursor, fine-here}
 use Rattle.formula_pair_codes.specs.Pairs.{Pair}
 use Rattle.formula_pair_codes.proofs.Laws.{pair-of}
-use Rattle.formula_fill.proofs.Answers.{fill-refused, fill-joins, fill-runs}
+use Rattle.formula_fill.proofs.Answers.{formula-fill-refused, fill-joins, formula-fill-runs}
 use Rattle.formula_fill.proofs.fill.Statement.{statement}
 use Rattle.formula_fill.proofs.fill.Tie as tie
 
@@ -25,7 +25,7 @@ returns c =
     let t = c .before in
     let k = t .before in
     let a = begin k .args in
-    fill-refused (a .s0 .now) (a .s1 .now) (a .s2 .now) (a .s3 .now) (a .codes .now) (a .c)
+    formula-fill-refused (a .s0 .now) (a .s1 .now) (a .s2 .now) (a .s3 .now) (a .codes .now) (a .c)
     (refusal-formula (a .s0 .now) (a .s1 .now) (a .s2 .now) (a .s3 .now) (a .codes .now) (k .check .ensures) (a .c) (t .if1 .taken))
     (a .budget) (a .out .now) (t .if1 .taken) (c .made .ensures)
 
@@ -75,7 +75,7 @@ returns-3 : tie.Need-returns-3
 returns-3 c =
     let t = c .before in
     let a = begin (t .before .before .before .before .before .before) .args in
-    fill-refused (a .s0 .now) (a .s1 .now) (a .s2 .now) (a .s3 .now) (a .codes .now) (a .c) (judged (t .before)) (a .budget) (a .out .now) (t .if3 .taken) (c .made2 .ensures)
+    formula-fill-refused (a .s0 .now) (a .s1 .now) (a .s2 .now) (a .s3 .now) (a .codes .now) (a .c) (judged (t .before)) (a .budget) (a .out .now) (t .if3 .taken) (c .made2 .ensures)
 
 fill-in-requires : tie.Need-fill-in-requires
 fill-in-requires c κs =
@@ -91,7 +91,7 @@ returns-4 c =
     let f = c .before .before in
     let t = f .before .before in
     let a = begin (t .before .before .before .before .before .before) .args in
-    fill-runs (a .s0 .now) (a .s1 .now) (a .s2 .now) (a .s3 .now) (a .codes .now) (a .c) (judged (t .before)) (a .budget) (a .out .now) (t .if3 .left) (t .before .before .before .before .named .ensures) (f .fill-in .ensures)
+    formula-fill-runs (a .s0 .now) (a .s1 .now) (a .s2 .now) (a .s3 .now) (a .codes .now) (a .c) (judged (t .before)) (a .budget) (a .out .now) (t .if3 .left) (t .before .before .before .before .named .ensures) (f .fill-in .ensures)
 
 pub fill-spec : {M : Type 1} → statement M
 fill-spec =

@@ -1,7 +1,7 @@
 -- `place` meets its contract. Assumes nothing.
 use native.Mathlib.Omega.{arith}
 use borrow.Author.Needs.{needs}
-use Rattle.formula_place.proofs.Spots.{place-fits, place-in, place-past}
+use Rattle.formula_place.proofs.Spots.{place-fits, spot-inside, place-past}
 use Rattle.formula_place.proofs.place.Statement.{statement}
 use Rattle.formula_place.proofs.place.Tie as tie
 
@@ -27,7 +27,7 @@ returns : tie.Need-returns
 returns c =
     let t = c .before in
     let a = t .before .before .args in
-    place-in (a .n) (a .k) (a .i) (t .before .words-in .ensures) (t .if1 .taken) (c .end .ensures)
+    spot-inside (a .n) (a .k) (a .i) (t .before .words-in .ensures) (t .if1 .taken) (c .end .ensures)
 
 returns-2 : tie.Need-returns-2
 returns-2 c =

@@ -1,5 +1,5 @@
 -- `start` meets its contract. Assumes nothing.
-use Rattle.formula_walk.proofs.Answers.{start-refused, start-runs}
+use Rattle.formula_walk.proofs.Answers.{start-refused, formula-start-runs}
 use borrow.Author.Needs.{needs}
 use Rattle.formula_walk.proofs.start.Statement.{statement}
 use Rattle.formula_walk.proofs.start.Tie as tie
@@ -35,7 +35,7 @@ returns-2 c =
     let g = t .before in
     let e = g .before in
     let a = e .before .before .before .before .before .before .before .args in
-    start-runs (a .s0 .now) (a .s1 .now) (a .s2 .now) (a .s3 .now) (a .codes .now) (e .before .check .ensures) (a .c) (e .if1 .left) (g .named .ensures) (t .top .ensures)
+    formula-start-runs (a .s0 .now) (a .s1 .now) (a .s2 .now) (a .s3 .now) (a .codes .now) (e .before .check .ensures) (a .c) (e .if1 .left) (g .named .ensures) (t .top .ensures)
     (w .word .ensures) (c .begun .ensures)
 
 pub start-spec : {M : Type 1} → statement M

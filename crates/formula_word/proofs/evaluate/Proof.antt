@@ -4,7 +4,7 @@ use Prim.Native.Nat.{_-_}
 use native.Mathlib.Omega.{arith}
 use lib.ListN.{length}
 use Rattle.formula_word.specs.Steps.{Evaluating}
-use Rattle.formula_word.proofs.Arms.{goes-on, all-done}
+use Rattle.formula_word.proofs.Arms.{evaluating-on, evaluating-done}
 use Rattle.formula_word.proofs.evaluate.Statement.{statement}
 use Rattle.formula_word.proofs.evaluate.Tie as tie
 
@@ -33,10 +33,10 @@ loop-less : tie.Need-loop-less Inv-loop μ-loop
 loop-less c = let t = c .before .next-turn .ensures in omega (arith, t .on, t .within)
 
 loop-again : tie.Need-loop-again Inv-loop μ-loop
-loop-again c = let n = c .before in goes-on (n .before .before .before .loop .inv) (n .next-turn .ensures)
+loop-again c = let n = c .before in evaluating-on (n .before .before .before .loop .inv) (n .next-turn .ensures)
 
 returns : tie.Need-returns Inv-loop μ-loop
-returns c = all-done (c .before .loop .inv) (c .loop-test .left)
+returns c = evaluating-done (c .before .loop .inv) (c .loop-test .left)
 
 pub evaluate-spec : {M : Type 1} → statement M
 evaluate-spec =

@@ -3,7 +3,7 @@ use mathlib.Core.Path.{ap}
 use native.Mathlib.Omega.{arith}
 use borrow.Author.Needs.{needs}
 use lib.ListN.{length}
-use Rattle.formula_word.proofs.Arms.{evaluating-start, goes-on}
+use Rattle.formula_word.proofs.Arms.{evaluating-start, evaluating-on}
 use Rattle.formula_word.proofs.opening.Statement.{statement}
 use Rattle.formula_word.proofs.opening.Tie as tie
 
@@ -21,7 +21,7 @@ same-length c = search needs
 returns : tie.Need-returns
 returns c =
     let s = c .before .before .before .before .before .before .before .before in
-    goes-on (evaluating-start _ _ _ _ _ (s .pre)) (c .before .before .three .ensures)
+    evaluating-on (evaluating-start _ _ _ _ _ (s .pre)) (c .before .before .three .ensures)
 
 returns-2 : tie.Need-returns-2
 returns-2 c = evaluating-start _ _ _ _ _ (c .before .before .before .before .pre)

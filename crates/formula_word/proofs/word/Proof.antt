@@ -1,7 +1,7 @@
 -- `word` meets its contract. Assumes nothing.
 use borrow.Author.Needs.{needs}
 use denote.Ref.{now}
-use Rattle.formula_word.proofs.Words.{word-is}
+use Rattle.formula_word.proofs.Words.{machine-word-is}
 use Rattle.formula_word.proofs.word.Statement.{statement}
 use Rattle.formula_word.proofs.word.Tie as tie
 
@@ -19,7 +19,7 @@ returns c =
     let t = c .before in
     let x = t .before in
     let a = x .before .before .before .before .before .before .args in
-    word-is (a .s0 .now) (a .s1 .now) (a .s2 .now) (a .s3 .now) (a .codes .now) (a .n) (a .layer) (a .i)
+    machine-word-is (a .s0 .now) (a .s1 .now) (a .s2 .now) (a .s3 .now) (a .codes .now) (a .n) (a .layer) (a .i)
     (t .spot .ensures) (x .cut .ensures) (c .word-at .ensures)
 
 pub word-spec : {M : Type 1} → statement M

@@ -5,7 +5,7 @@ use native.Mathlib.Omega.{arith}
 use borrow.Author.Needs.{needs}
 use lib.ListN.{length}
 use denote.Ref.{now}
-use Rattle.text_in.proofs.Line.{goes-on}
+use Rattle.text_in.proofs.Line.{line-goes-on}
 use Rattle.listing_replies.specs.Replies.{Good}
 use Rattle.listing.proofs.feed.Statement.{statement}
 use Rattle.listing.proofs.feed.Tie as tie
@@ -30,7 +30,7 @@ step-requires c κs = search needs
 forward : (c : tie.After-gather-line Inv-loop μ-loop)
     → (c .before .before .before .loop .i < c .gather-line .result .next)
     × (c .gather-line .result .next ≤ length (now (c .before .before .before .before .before .before .before .before .args .piece)))
-forward c = goes-on _ _ _ _ (c .gather-line .ensures) (c .before .before .loop-test .taken)
+forward c = line-goes-on _ _ _ _ (c .gather-line .ensures) (c .before .before .loop-test .taken)
 
 loop-less : tie.Need-loop-less Inv-loop μ-loop
 loop-less c = omega (arith, forward (c .before .before .before .before .before .before .before .before .before .before))

@@ -2,7 +2,7 @@
 use Prim.Native.Nat.{_-_}
 use borrow.Author.Needs.{needs}
 use lib.ListN.{length}
-use Rattle.listing_members.proofs.Naming.{PuttingIds, ids-none, puts-turn, puts-end}
+use Rattle.listing_members.proofs.Naming.{PuttingIds, ids-none, ids-turn, ids-end}
 use Rattle.listing_members.proofs.put_ids.Statement.{statement}
 use Rattle.listing_members.proofs.put_ids.Tie as tie
 
@@ -33,13 +33,13 @@ loop-less c = search needs
 loop-again : tie.Need-loop-again Inv-loop μ-loop
 loop-again c =
     let n = c .before .before in
-    puts-turn (n .before .before .before .before .loop .inv) (search needs) (search needs) (n .put-id .ensures)
+    ids-turn (n .before .before .before .before .loop .inv) (search needs) (search needs) (n .put-id .ensures)
 
 same-length : tie.Need-same-length Inv-loop μ-loop
 same-length c = search needs
 
 returns : tie.Need-returns Inv-loop μ-loop
-returns c = puts-end (c .before .loop .inv) (search needs)
+returns c = ids-end (c .before .loop .inv) (search needs)
 
 pub put-ids-spec : {M : Type 1} → statement M
 put-ids-spec =

@@ -6,7 +6,7 @@ use borrow.Author.Needs.{needs}
 use borrow.Author.Tests.{not-true, not-false}
 use Rattle.store.specs.Word.{Words64}
 use Rattle.walk_batches.proofs.Batches.{toGo, Turn, turn, batch-length, less-to-go}
-use Rattle.listing_members.proofs.Naming.{NamingFrom, naming-start, all-put, going-on}
+use Rattle.listing_members.proofs.Naming.{NamingFrom, naming-begins, all-put, naming-on}
 use Rattle.listing_members.proofs.put_walked.Statement.{statement}
 use Rattle.listing_members.proofs.put_walked.Tie as tie
 
@@ -26,7 +26,7 @@ words c x = c .before .shared-slice-known .given x .fits
 loop-holds : tie.Need-loop-holds Inv-loop μ-loop
 loop-holds c =
     let s = c .before .before .before in
-    naming-start (s .args .store .now) (s .pre) (words c) _ _ (c .started .result) (omega arith) (c .started .ensures)
+    naming-begins (s .args .store .now) (s .pre) (words c) _ _ (c .started .result) (omega arith) (c .started .ensures)
 
 slice-aggregate-fill : tie.Need-slice-aggregate-fill Inv-loop μ-loop
 slice-aggregate-fill c = sym (c .before .loop .inv .stands .long)
@@ -76,7 +76,7 @@ loop-again : tie.Need-loop-again Inv-loop μ-loop
 loop-again c =
     let p = c .before .before .before .before .before in
     let f = p .before .before .before .before in
-    going-on (f .before .before .loop .inv) (batch-here f) (p .put-ids .ensures) (search needs)
+    naming-on (f .before .before .loop .inv) (batch-here f) (p .put-ids .ensures) (search needs)
 
 pub put-walked-spec : {M : Type 1} → statement M
 put-walked-spec =

@@ -4,7 +4,7 @@ use native.Mathlib.Omega.{arith}
 use borrow.Author.Needs.{needs}
 use Rattle.text_out.specs.Out.{putAllOf}
 use Rattle.listing_printed.specs.Reply.{replyWord}
-use Rattle.listing_printed.proofs.Printing.{InSpan, inside, end-word}
+use Rattle.listing_printed.proofs.Printing.{InSpan, in-span, end-word}
 use Rattle.listing_printed.proofs.put_word.Statement.{statement}
 use Rattle.listing_printed.proofs.put_word.Tie as tie
 
@@ -16,7 +16,7 @@ slice-aggregate-words c = search needs
 
 -- the word's place
 here : (c : tie.After-place) → let a = c .before .before .args in InSpan (replyWord (a .letter) (a .yes)) (c .place .result)
-here c = let a = c .before .before .args in subst (InSpan (replyWord (a .letter) (a .yes))) (sym (c .place .ensures)) (inside (a .letter) (a .yes))
+here c = let a = c .before .before .args in subst (InSpan (replyWord (a .letter) (a .yes))) (sym (c .place .ensures)) (in-span (a .letter) (a .yes))
 
 sub-put-all : tie.Need-sub-put-all
 sub-put-all c = here (c .before .before) .from-to

@@ -2,7 +2,7 @@
 use mathlib.Core.Path.{refl, ap, _∙_}
 use borrow.Author.Needs.{needs}
 use Rattle.text_out.specs.Out.{putAllOf}
-use Rattle.listing_replies.proofs.Printing.{answer-is, arm}
+use Rattle.listing_replies.proofs.Printing.{reply-printed, arm}
 use Rattle.listing_replies.proofs.reply.Statement.{statement}
 use Rattle.listing_replies.proofs.reply.Tie as tie
 
@@ -55,7 +55,7 @@ returns : tie.Need-returns
 returns c =
     let p = c .before .before in
     let a = p .before .before .before in
-    arm _ _ _ _ (a .before .before .before .before .c .given .1) (p .put-reply .ensures ∙ ap (putAllOf _ _) (answer-is _ _ (a .add .ensures))) (a .add .ensures .memory)
+    arm _ _ _ _ (a .before .before .before .before .c .given .1) (p .put-reply .ensures ∙ ap (putAllOf _ _) (reply-printed _ _ (a .add .ensures))) (a .add .ensures .memory)
 
 same-length-3 : tie.Need-same-length-3
 same-length-3 c = search needs
@@ -67,7 +67,7 @@ returns-2 : tie.Need-returns-2
 returns-2 c =
     let p = c .before .before in
     let a = p .before .before .before in
-    arm _ _ _ _ (a .before .before .before .before .c2 .given .1) (p .put-reply2 .ensures ∙ ap (putAllOf _ _) (answer-is _ _ (a .remove .ensures))) (a .remove .ensures .memory)
+    arm _ _ _ _ (a .before .before .before .before .c2 .given .1) (p .put-reply2 .ensures ∙ ap (putAllOf _ _) (reply-printed _ _ (a .remove .ensures))) (a .remove .ensures .memory)
 
 same-length-5 : tie.Need-same-length-5
 same-length-5 c = search needs
@@ -79,7 +79,7 @@ returns-3 : tie.Need-returns-3
 returns-3 c =
     let p = c .before .before in
     let a = p .before in
-    arm _ _ _ _ (a .before .before .before .before .c3 .given .1) (p .put-reply3 .ensures ∙ ap (putAllOf _ _) (answer-is _ _ (a .contains .ensures))) refl
+    arm _ _ _ _ (a .before .before .before .before .c3 .given .1) (p .put-reply3 .ensures ∙ ap (putAllOf _ _) (reply-printed _ _ (a .contains .ensures))) refl
 
 same-length-7 : tie.Need-same-length-7
 same-length-7 c = search needs

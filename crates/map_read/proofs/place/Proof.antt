@@ -3,12 +3,12 @@ use Prim.Native.Nat.{_+_, _-_, _*_, _≤_}
 use native.Mathlib.Omega.{arith}
 use borrow.Author.Needs.{needs}
 use lib.ListN.{length}
-use Rattle.map_read.proofs.Loops.{Entered, placed-start, placed-turn, placed-end}
+use Rattle.map_read.proofs.Loops.{EntriesAt, placed-start, placed-turn, placed-end}
 use Rattle.map_read.proofs.place.Statement.{statement}
 use Rattle.map_read.proofs.place.Tie as tie
 
 abbrev Inv-loop : tie.InvT-loop
-Inv-loop layer₀ table used j₀ layer j = Entered layer₀ table used layer j
+Inv-loop layer₀ table used j₀ layer j = EntriesAt layer₀ table used layer j
 
 abbrev μ-loop : tie.MeasureT-loop
 μ-loop layer₀ table used j₀ layer j = used - j

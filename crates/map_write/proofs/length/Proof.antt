@@ -5,7 +5,7 @@ use Rattle.store.specs.Layout.{StoreOf}
 use Rattle.store.specs.Word.{Words64}
 use Rattle.store.proofs.Ends.{some-store, no-store, store-small, Lent0, lent0}
 use Rattle.map_write.proofs.Answers.{length-2, length-done}
-use Rattle.map_write.proofs.Layer.{some-lent, words-are}
+use Rattle.map_write.proofs.Layer.{some-lent, layer-words-are}
 use Rattle.map_write.proofs.length.Statement.{statement}
 use Rattle.map_write.proofs.length.Tie as tie
 
@@ -58,7 +58,7 @@ returns-2 c =
     let k = c .before in
     let a = k .before .before in
     let z = store-here (a .before) in
-    length-done z (words-are z (lent-here a) (small (a .before)) (k .kept-word .ensures)) (c .map-length .ensures)
+    length-done z (layer-words-are z (lent-here a) (small (a .before)) (k .kept-word .ensures)) (c .map-length .ensures)
 
 pub length-spec : {M : Type 1} → statement M
 length-spec =

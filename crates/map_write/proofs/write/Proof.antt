@@ -8,7 +8,7 @@ use Rattle.store.proofs.Ends.{some-store, no-store, store-small, Lent0, lent0}
 use Rattle.map_format.specs.Steps.{withLast}
 use Rattle.map_write.specs.Map.{toldWords}
 use Rattle.map_write.proofs.Answers.{write-2, write-8, write-room, write-done}
-use Rattle.map_write.proofs.Layer.{lent, some-lent, fits, words-are}
+use Rattle.map_write.proofs.Layer.{lent, some-lent, fits, layer-words-are}
 use Rattle.map_write.proofs.write.Statement.{statement}
 use Rattle.map_write.proofs.write.Tie as tie
 
@@ -64,7 +64,7 @@ words-here : (c : tie.After-kept-word)
     withLast (lent s (a .start .result)) (c .kept-word .result) ≡ toldWords (y .capacity .result) s
 words-here c =
     let a = c .before .before in
-    words-are (store-here (a .before)) (lent-here a) (small (a .before)) (c .kept-word .ensures)
+    layer-words-are (store-here (a .before)) (lent-here a) (small (a .before)) (c .kept-word .ensures)
 
 returns-2 : tie.Need-returns-2
 returns-2 c =

@@ -5,7 +5,7 @@ use borrow.Author.Needs.{needs}
 use borrow.Author.Tests.{not-true, not-false}
 use Rattle.store.specs.Word.{Words64}
 use Rattle.walk_batches.proofs.Batches.{toGo, Turn, turn, batch-length, less-to-go}
-use Rattle.set_superset.proofs.Batches.{Holding, holding-start, one-lacks, all-there, going-on}
+use Rattle.set_superset.proofs.Batches.{Holding, holding-start, one-lacks, all-there, holding-on}
 use Rattle.set_superset.proofs.all_walked.Statement.{statement}
 use Rattle.set_superset.proofs.all_walked.Tie as tie
 
@@ -80,7 +80,7 @@ loop-again c =
     let e = c .before .before .before in
     let h = e .before in
     let f = h .before .before .before in
-    going-on (f .before .before .loop .inv) (batch-here f) (sym (h .all-held .ensures) ∙ not-false _ (e .if1 .left))
+    holding-on (f .before .before .loop .inv) (batch-here f) (sym (h .all-held .ensures) ∙ not-false _ (e .if1 .left))
 
 pub all-walked-spec : {M : Type 1} → statement M
 all-walked-spec =
