@@ -1,18 +1,17 @@
 -- Every reached store is a store of its capacity, of words, and sound.
-use mathlib.Core.Bool.{Bool, true, false, cond}
+use mathlib.Core.Bool.{true, false}
 use mathlib.Core.List.{List}
 use mathlib.Core.Path.{_≡_, refl, sym, subst}
 use Prim.Native.Nat.{ℕ, _≤_}
 use borrow.Author.Tests.{eq-eqb, le-leb}
 use lib.ListN.{length}
-use Rattle.store.specs.Answer.{says, does, refuses}
+use Rattle.store.specs.Answer.{says, refuses}
 use Rattle.store.specs.Layout.{maxCap, isCap, storeLen}
 use Rattle.store.specs.Word.{SoundStore}
 use Rattle.store.proofs.Build.{fine-empty}
 use Rattle.store.proofs.Geometry.{is-store}
 use Rattle.store.proofs.Members.{own}
-use Rattle.set_edit.specs.Calls.{allBelow, addAll, addListOf}
-use Rattle.set_laws.proofs.Theorems.{fine-after, fine-add-all}
+use Rattle.set_laws.proofs.Theorems.{fine-after, fine-after-list}
 use Rattle.set_whole.specs.Calls.{openOf, clearOf}
 use Rattle.summary.proofs.Said.{rebuild-same}
 use Rattle.ops_merge.proofs.Theorems.{fine-merged}
@@ -20,14 +19,6 @@ use Rattle.map_laws.proofs.Theorems.{read-keeps}
 use Rattle.claims.specs.Reached.{OneCall, Reached}
 use Rattle.claims.specs.Reached.OneCall.{adds, removes, lists, clears, rebuilds, merges, reads}
 use Rattle.claims.specs.Reached.Reached.{opened, after}
-
-fine-list : {N : ℕ} {s : List ℕ} → SoundStore N s → (ids : List ℕ) → SoundStore N (addListOf s ids .lent)
-unfolding addListOf
-fine-list {N} {s} f ids = rw (is-store (f .is), f .is .names) (go (allBelow N ids) refl)
-  where
-    go : (x : Bool) → allBelow N ids ≡ x → SoundStore N (cond x (does (addAll N s ids)) (refuses 3 s) .lent)
-    go true e = fine-add-all ids f e
-    go false e = f
 
 fine-clear : {N : ℕ} {s : List ℕ} → SoundStore N s → SoundStore N (clearOf s .lent)
 unfolding clearOf
@@ -45,7 +36,7 @@ fine-open N s some most l = rw (cap-is some most, eq-eqb (length s) (storeLen N)
 pub fine-one : {N : ℕ} {s u : List ℕ} → SoundStore N s → OneCall N s u → SoundStore N u
 fine-one {s = s} f (adds i) = fine-after true (refuses 3 s) f i refl
 fine-one {s = s} f (removes i) = fine-after false (says false s) f i refl
-fine-one f (lists ids) = fine-list f ids
+fine-one f (lists ids) = fine-after-list f ids
 fine-one f clears = fine-clear f
 fine-one {N} {s} f rebuilds = let g = own f in subst (SoundStore N) (sym (rebuild-same s (g .is) (g .words) (g .sound))) f
 fine-one f (merges g op v) = fine-merged f g v

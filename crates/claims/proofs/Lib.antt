@@ -1,4 +1,5 @@
 pub mod Histories
+pub mod Closed
 pub mod Walks
 pub mod Maps
 pub mod Refusals
