@@ -20,7 +20,7 @@ use Rattle.claims.specs.Reached.{OneCall, Reached}
 use Rattle.claims.specs.Reached.OneCall.{adds, removes, lists, clears, rebuilds, merges, reads}
 use Rattle.claims.specs.Reached.Reached.{opened, after}
 use Rattle.claims.specs.Stores.{Each, ofOwn, opens, lentTo, leftBy}
-use Rattle.claims.proofs.Histories.{fine-open, fine-one, reached-fine}
+use Rattle.claims.proofs.Histories.{open-empties, fine-open, fine-one, reached-fine}
 
 -- what is had by every opened store, is handed on by one call, and is sound
 record Inherited (P : ℕ → List ℕ → Type 0) : Type 0 where
@@ -43,8 +43,8 @@ module _ {P : ℕ → List ℕ → Type 0} (k : Inherited P) where
       new : isCap n ≡ true → eqb (length s) (storeLen n) ≡ true → P n (empty n)
       new a b =
           let room = cap-in n a in
-          let is : openOf s n .lent ≡ empty n = rw (a, b) in
-          subst (P n) is (k .opened-has s (room .0) (room .1) (eqb-true (length s) (storeLen n) b))
+          let long = eqb-true (length s) (storeLen n) b in
+          subst (P n) (open-empties s (room .0) (room .1) long) (k .opened-has s (room .0) (room .1) long)
 
       go : (a : Bool) → isCap n ≡ a → (b : Bool) → eqb (length s) (storeLen n) ≡ b → Each P (cond (a && b) [] (ofOwn s ∷ []))
           → P (cond (a && b) n (cap s)) (cond a (cond b (does (empty n)) (refuses 2 s)) (refuses 1 s) .lent)
@@ -96,4 +96,4 @@ reached-closed = calls-leave (record { opened-has = opened; handed-on = after; i
 
 -- "ALL CALLS KEEP SOUNDNESS where every store lent to them is sound."
 pub sound-closed : (c : Call) (r : Answered (promiseOf c)) (y : Memory (promiseOf c)) → Meets (promiseOf c) r y → Each SoundStore (lentTo c) → Each SoundStore (leftBy c y)
-sound-closed = calls-leave (record { opened-has = fine-open _; handed-on = fine-one; is-sound = λ f. f })
+sound-closed = calls-leave (record { opened-has = fine-open; handed-on = fine-one; is-sound = λ f. f })
