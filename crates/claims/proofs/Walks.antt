@@ -11,14 +11,14 @@ use Rattle.store.specs.Word.{Words64}
 use Rattle.walk.specs.declared.Cursor.{Cursor}
 use Rattle.walk_laws.specs.Calls.{Ask, Some, AllStopped}
 use Rattle.walk_laws.specs.Under.{allIds, allReads}
-use Rattle.walk_laws.specs.Walks.{Spaced}
+use Rattle.walk_laws.specs.Walks.{Spaced, SpacedAs}
 use Rattle.formula_codes.specs.Tree.{four, nth}
 use Rattle.formula_ask.specs.Calls.{formulaWords}
 use Rattle.formula_walk.specs.Calls.{formulaStartIn}
 use Rattle.formula_laws.specs.Sides.{Sounds, UnionCodes}
-use Rattle.formula_laws.specs.Walks.{nextOver, callOver, walkOver, readsOf, FormulaWalked}
+use Rattle.formula_laws.specs.Walks.{nextOver, fillOver, callOver, walkOver, readsOf, FormulaWalked}
 use Rattle.formula_laws.proofs.Answers.{sounds}
-use Rattle.formula_laws.proofs.Calls.{formula-kept, formula-walked, formula-over, formula-spaced, and-reads-left, and-reads-right}
+use Rattle.formula_laws.proofs.Calls.{formula-kept, formula-walked, formula-over, formula-spaced, formula-fill-spaced, and-reads-left, and-reads-right}
 use Rattle.claims.specs.Lent.{Lent}
 use Rattle.claims.proofs.Histories.{reached-fine}
 
@@ -33,7 +33,7 @@ module _ (a b c d : List ℕ) where
       go (yes e) = λ y. subst (λ (z : ℕ). z < 2 ^ 64) (sym (List·getD-eq-default {A = ℕ} (nth ss x) 0 {n = y} (omega arith))) (omega arith)
       go (no n) = reached-fine (l .reached x n) .words
 
-  sounds-lent : {cs : List ℕ} → Lent ss cs → Sounds (cap a) ss
+  pub sounds-lent : {cs : List ℕ} → Lent ss cs → Sounds (cap a) ss
   sounds-lent {cs} l = sounds a b c d cs (l .accepted) (words-lent l) (λ x n. reached-fine (l .reached x n) .sound)
 
   module _ {cs : List ℕ} (l : Lent ss cs) where
@@ -53,6 +53,10 @@ module _ (a b c d : List ℕ) where
     -- "On one store or a union of stores, after the top word, at most three words are read before each next member and none before the end."
     pub walk-gaps : UnionCodes cs → (k : Cursor) (bs : List ℕ) → Spaced (top (cap a)) (nextOver ss cs) bs (formulaStartIn ss cs k .cursor) 0
     walk-gaps = formula-spaced a b c d cs (l .accepted) (sounds-lent l)
+
+    -- and of next and fill in any mix, which hand out and read what next alone does
+    pub walk-fill-gaps : UnionCodes cs → (k : Cursor) (q : List Ask) → SpacedAs (top (cap a)) (nextOver ss cs) (fillOver ss cs) q (formulaStartIn ss cs k .cursor)
+    walk-fill-gaps = formula-fill-spaced a b c d cs (l .accepted) (sounds-lent l)
 
   -- "An intersection reads no more than either side alone."
   module _ (f g : List ℕ) (left : Lent ss f) (right : Lent ss g) (l : Lent ss (f ++ (g ++ 16 ∷ []))) (k m : Cursor) (bs qs : List Ask) where
