@@ -2,7 +2,7 @@
 use mathlib.Core.Bool.{true}
 use mathlib.Core.List.{List, [], _∷_, _++_}
 use mathlib.Core.Path.{_≡_, sym, subst}
-use Prim.Native.Nat.{ℕ, _+_, _^_, _≤_, _<_}
+use Prim.Native.Nat.{ℕ, suc, _+_, _*_, _^_, _≤_, _<_}
 use native.Mathlib.Decide.{ℕ-discrete}
 use native.Mathlib.Omega.{arith}
 use lib.ListN.{length, List·getD-eq-default}
@@ -12,6 +12,7 @@ use Rattle.walk.specs.declared.Cursor.{Cursor}
 use Rattle.walk_laws.specs.Calls.{Ask, Some, AllStopped}
 use Rattle.walk_laws.specs.Under.{allIds, allReads}
 use Rattle.walk_laws.specs.Walks.{Spaced, SpacedAs}
+use Rattle.walk_laws.proofs.Bounds.{spaced-reads}
 use Rattle.formula_codes.specs.Tree.{four, nth}
 use Rattle.formula_ask.specs.Calls.{formulaWords}
 use Rattle.formula_walk.specs.Calls.{formulaStartIn}
@@ -57,6 +58,11 @@ module _ (a b c d : List ℕ) where
     -- and of next and fill in any mix, which hand out and read what next alone does
     pub walk-fill-gaps : UnionCodes cs → (k : Cursor) (q : List Ask) → SpacedAs (top (cap a)) (nextOver ss cs) (fillOver ss cs) q (formulaStartIn ss cs k .cursor)
     walk-fill-gaps = formula-fill-spaced a b c d cs (l .accepted) (sounds-lent l)
+
+    -- so they have read at most three words for each member handed out and three more, and where they ended none more
+    pub walk-reads : UnionCodes cs → (k : Cursor) (q : List Ask)
+        → (let w = walkOver ss cs k q in (w .total ≤ top (cap a) * suc (length (w .members))) × (w .over ≡ true → w .total ≤ top (cap a) * length (w .members)))
+    walk-reads u k q = spaced-reads (walk-fill-gaps u k q)
 
   -- "An intersection reads no more than either side alone."
   module _ (f g : List ℕ) (left : Lent ss f) (right : Lent ss g) (l : Lent ss (f ++ (g ++ 16 ∷ []))) (k m : Cursor) (bs qs : List Ask) where

@@ -1,7 +1,7 @@
 -- NO CLAIM IS EMPTY: every record that a claimed theorem takes has inhabitants, and every walk an end.
 use mathlib.Core.Bool.{true}
 use mathlib.Core.List.{List, [], _∷_, _++_}
-use mathlib.Core.Logic.{_≢_, inl, inr}
+use mathlib.Core.Logic.{_≢_}
 use mathlib.Core.Path.{_≡_, refl, sym, ap, subst}
 use Prim.Native.Nat.{ℕ, zero, suc, _+_, _≤_}
 use native.Mathlib.Decide.{ℕ-discrete}
@@ -19,15 +19,17 @@ use Rattle.store.proofs.Geometry.{after-header, is-store}
 use Rattle.store.proofs.Members.{own}
 use Rattle.set_edit.specs.Calls.{addListOf}
 use Rattle.walk.specs.declared.Cursor.{Cursor}
-use Rattle.walk_laws.specs.Calls.{Ask, Some}
+use Rattle.walk_laws.specs.Calls.{Ask}
 use Rattle.walk_laws.specs.Calls.Ask.{one}
 use Rattle.walk_laws.specs.Under.{allIds, allReads}
+use Rattle.walk_laws.proofs.Ends.{some-asks}
 use Rattle.formula_codes.specs.Check.{besideOf, sooner, storesOf, checkOf}
 use Rattle.formula_codes.specs.Codes.{codeKind, takesIn, left, isFormula}
 use Rattle.formula_codes.specs.Tree.{four, nth}
 use Rattle.formula_ask.specs.Calls.{formulaWords}
 use Rattle.formula_laws.specs.Sides.{Sounds, UnionCodes}
 use Rattle.formula_laws.specs.Walks.{walkOver}
+use Rattle.formula_laws.proofs.Shapes.{union-some}
 use Rattle.ops_merge.specs.Calls.{mergeable, BothSound}
 use Rattle.map_write.specs.Calls.{writeOf}
 use Rattle.map_write.specs.Map.{toldWords, mapOf, mapLen}
@@ -82,19 +84,25 @@ module _ {N : ℕ} {a : List ℕ} (first : Reached N a) where
       go (suc (suc (suc zero))) n = rd n
       go (suc (suc (suc (suc x)))) n = absurd (n refl)
 
-  -- one store
-  pub lent-one : Lent (four a [] [] []) (0 ∷ [])
+  -- "one store"
+  pub lent-one : Lent (four a [] [] []) (0 ∷ []) × UnionCodes (0 ∷ [])
   unfolding isFormula left takesIn codeKind
-  lent-one = lent-any [] [] [] (0 ∷ []) (λ n. absurd (n refl)) (λ n. absurd (n refl)) (λ n. absurd (n refl)) (rw (not-short first))
+  lent-one = (
+    lent-any [] [] [] (0 ∷ []) (λ n. absurd (n refl)) (λ n. absurd (n refl)) (λ n. absurd (n refl)) (rw (not-short first)),
+    union-some .0,
+  )
 
   module _ {b c d : List ℕ} (rb : Reached N b) (rc : Reached N c) (rd : Reached N d) where
     lent-codes : (cs : List ℕ) → isFormula (four a b c d) cs ≡ true → Lent (four a b c d) cs
     lent-codes cs = lent-any b c d cs (λ n. rb) (λ n. rc) (λ n. rd)
 
-    -- the union of four
-    pub lent-four : Lent (four a b c d) (0 ∷ 1 ∷ 17 ∷ 2 ∷ 17 ∷ 3 ∷ 17 ∷ [])
+    -- "a union of stores": of four
+    pub lent-four : Lent (four a b c d) (0 ∷ 1 ∷ 17 ∷ 2 ∷ 17 ∷ 3 ∷ 17 ∷ []) × UnionCodes (0 ∷ 1 ∷ 17 ∷ 2 ∷ 17 ∷ 3 ∷ 17 ∷ [])
     unfolding isFormula left takesIn codeKind
-    lent-four = lent-codes (0 ∷ 1 ∷ 17 ∷ 2 ∷ 17 ∷ 3 ∷ 17 ∷ []) (rw (not-short first, not-short rb, not-short rc, not-short rd))
+    lent-four = (
+      lent-codes (0 ∷ 1 ∷ 17 ∷ 2 ∷ 17 ∷ 3 ∷ 17 ∷ []) (rw (not-short first, not-short rb, not-short rc, not-short rd)),
+      union-some .1,
+    )
 
     -- an intersection and its two sides
     pub lent-sides : Lent (four a b c d) (0 ∷ []) × Lent (four a b c d) (1 ∷ []) × Lent (four a b c d) ((0 ∷ []) ++ ((1 ∷ []) ++ 16 ∷ []))
@@ -106,17 +114,9 @@ module _ {N : ℕ} {a : List ℕ} (first : Reached N a) where
     )
 
     pub sounds-four : Sounds (cap a) (four a b c d)
-    sounds-four = sounds-lent a b c d lent-four
-
--- "one store or a union of stores"
-pub union-four : UnionCodes (0 ∷ []) × UnionCodes (0 ∷ 1 ∷ 17 ∷ 2 ∷ 17 ∷ 3 ∷ 17 ∷ [])
-union-four = ((inl (omega arith), tt), (inl (omega arith), (inl (omega arith), (inr refl, (inl (omega arith), (inr refl, (inl (omega arith), (inr refl, tt))))))))
+    sounds-four = sounds-lent a b c d (lent-four .0)
 
 -- ---- walks that end
-
-some-asks : (n : ℕ) → Some (replicate n (one 1))
-some-asks zero = tt
-some-asks (suc n) = (omega arith, omega arith, some-asks n)
 
 pub some-end : (a b c d : List ℕ) {cs : List ℕ} → Lent (four a b c d) cs → (k : Cursor) → (q : List Ask) × (walkOver (four a b c d) cs k q .over ≡ true)
 some-end a b c d {cs} l k =
