@@ -74,7 +74,7 @@ module _ {N : ℕ} {a : List ℕ} (first : Reached N a) where
       let z = reached-fine first .is in
       record {
         accepted = rw (is-store z, z .names, beside-none N b rb, beside-none N c rc, beside-none N d rd, h);
-        reached = λ x n. subst (λ (m : ℕ). Reached m (nth (four a b c d) x)) (sym (z .names)) (go x n);
+        reached = each;
       }
     where
       go : (x : ℕ) → length (nth (four a b c d) x) ≢ 0 → Reached N (nth (four a b c d) x)
@@ -83,6 +83,9 @@ module _ {N : ℕ} {a : List ℕ} (first : Reached N a) where
       go (suc (suc zero)) n = rc n
       go (suc (suc (suc zero))) n = rd n
       go (suc (suc (suc (suc x)))) n = absurd (n refl)
+
+      each : (x : ℕ) → length (nth (four a b c d) x) ≢ 0 → Reached (cap a) (nth (four a b c d) x)
+      each x n = subst (λ (m : ℕ). Reached m (nth (four a b c d) x)) (sym (reached-fine first .is .names)) (go x n)
 
   -- "one store"
   pub lent-one : Lent (four a [] [] []) (0 ∷ []) × UnionCodes (0 ∷ [])
