@@ -8,7 +8,9 @@ use native.Mathlib.Omega.{arith}
 use lib.ListN.{length, List·getD-eq-default}
 use Rattle.store.specs.Layout.{top, cap}
 use Rattle.store.specs.Word.{Words64}
+use Rattle.walk.specs.Walk.{startAt}
 use Rattle.walk.specs.declared.Cursor.{Cursor}
+use Rattle.walk.specs.declared.Next.the-variants.{Paused}
 use Rattle.walk_laws.specs.Calls.{Ask, Some, AllStopped}
 use Rattle.walk_laws.specs.Under.{allIds, allReads}
 use Rattle.walk_laws.specs.Walks.{Spaced, SpacedAs}
@@ -38,6 +40,11 @@ module _ (a b c d : List ℕ) where
   sounds-lent {cs} l = sounds a b c d cs (l .accepted) (words-lent l) (λ x n. reached-fine (l .reached x n) .sound)
 
   module _ {cs : List ℕ} (l : Lent ss cs) where
+    -- "Starting reads the top word and reports one read.", and does not refuse
+    pub walk-starts : (k : Cursor) → formulaStartIn ss cs k ≡ record { cursor = startAt (top (cap a)) (formulaWords ss cs (top (cap a)) 0); reads = 1; answer = Paused }
+    unfolding formulaStartIn
+    walk-starts k = rw (l .accepted)
+
     -- "However it is cut by read budgets, a walk that ends has handed out exactly the formula's members, each once, ascending, and reported
     -- the count of words that the definition says it reads." Its calls may be next and fill in any mix.
     pub walk-members : (k : Cursor) (q : List Ask) → walkOver ss cs k q .over ≡ true → FormulaWalked ss cs k (walkOver ss cs k q)
