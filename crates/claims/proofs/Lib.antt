@@ -1,6 +1,9 @@
 pub mod Histories
+pub mod Closed
+pub mod OneStore
 pub mod Walks
 pub mod Maps
+pub mod Witnesses
 pub mod Refusals
 pub mod Settles
 pub mod Contracts

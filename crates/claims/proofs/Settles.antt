@@ -2,7 +2,7 @@
 -- proved equal; exceptions are listed in docs/EXCEPTIONS.md, each with the ground for it."
 use mathlib.Core.Bool.{true, _&&_}
 use mathlib.Core.List.{List}
-use mathlib.Core.Path.{_≡_, refl, sym, ap, ap₂, _∙_, subst}
+use mathlib.Core.Path.{_≡_, refl, sym, ap, ap₂, _∙_}
 use Prim.Native.Nat.{ℕ}
 use lib.Dec.{eqb}
 use lib.ListN.{length}
@@ -12,6 +12,7 @@ use Rattle.util.proofs.Same.{both}
 use Rattle.store.specs.Layout.{cap, isStore}
 use Rattle.store.specs.Word.{Sound}
 use Rattle.store.specs.declared.Did.the-variants.{Done}
+use Rattle.store.proofs.Members.{own}
 use Rattle.set_layers.specs.Calls.{layerPart}
 use Rattle.walk.specs.Calls.{nextIn}
 use Rattle.walk.specs.declared.Cursor.{Cursor}
@@ -60,10 +61,7 @@ settled-alike c = share (promiseOf c)
 
 -- on stores that our calls reached there is none
 pub reached-whole : {N M : ℕ} {s t : List ℕ} → Reached N s → Reached M t → (op : ℕ) → Whole (merges op s t)
-reached-whole r q op h = (sound r, sound q)
-  where
-    sound : {N : ℕ} {s : List ℕ} → Reached N s → Sound (cap s) s
-    sound {s = s} r = let f = reached-fine r in subst (λ (n : ℕ). Sound n s) (sym (f .is .names)) (f .sound)
+reached-whole r q op h = (own (reached-fine r) .sound, own (reached-fine q) .sound)
 
 -- and no more is fixed than that: two stores of equal capacity that are not both sound may become any list with that length and word 0
 pub exception-open : (op : ℕ) (s t u : List ℕ) → mergeable s t ≡ true → (((Sound (cap s) s) × (Sound (cap t) t)) → ⊥) → length u ≡ length s → cap u ≡ cap s

@@ -2,23 +2,26 @@
 use mathlib.Core.Bool.{true}
 use mathlib.Core.List.{List, [], _∷_, _++_}
 use mathlib.Core.Path.{_≡_, sym, subst}
-use Prim.Native.Nat.{ℕ, _+_, _^_, _≤_, _<_}
+use Prim.Native.Nat.{ℕ, suc, _+_, _*_, _^_, _≤_, _<_}
 use native.Mathlib.Decide.{ℕ-discrete}
 use native.Mathlib.Omega.{arith}
 use lib.ListN.{length, List·getD-eq-default}
 use Rattle.store.specs.Layout.{top, cap}
 use Rattle.store.specs.Word.{Words64}
+use Rattle.walk.specs.Walk.{startAt}
 use Rattle.walk.specs.declared.Cursor.{Cursor}
+use Rattle.walk.specs.declared.Next.the-variants.{Paused}
 use Rattle.walk_laws.specs.Calls.{Ask, Some, AllStopped}
 use Rattle.walk_laws.specs.Under.{allIds, allReads}
-use Rattle.walk_laws.specs.Walks.{Spaced}
+use Rattle.walk_laws.specs.Walks.{Spaced, SpacedAs}
+use Rattle.walk_laws.proofs.Bounds.{spaced-reads}
 use Rattle.formula_codes.specs.Tree.{four, nth}
 use Rattle.formula_ask.specs.Calls.{formulaWords}
 use Rattle.formula_walk.specs.Calls.{formulaStartIn}
 use Rattle.formula_laws.specs.Sides.{Sounds, UnionCodes}
-use Rattle.formula_laws.specs.Walks.{nextOver, callOver, walkOver, readsOf, FormulaWalked}
+use Rattle.formula_laws.specs.Walks.{nextOver, fillOver, callOver, walkOver, readsOf, FormulaWalked}
 use Rattle.formula_laws.proofs.Answers.{sounds}
-use Rattle.formula_laws.proofs.Calls.{formula-kept, formula-walked, formula-over, formula-spaced, and-reads-left, and-reads-right}
+use Rattle.formula_laws.proofs.Calls.{formula-kept, formula-walked, formula-over, formula-spaced, formula-fill-spaced, and-reads-left, and-reads-right}
 use Rattle.claims.specs.Lent.{Lent}
 use Rattle.claims.proofs.Histories.{reached-fine}
 
@@ -33,10 +36,15 @@ module _ (a b c d : List ℕ) where
       go (yes e) = λ y. subst (λ (z : ℕ). z < 2 ^ 64) (sym (List·getD-eq-default {A = ℕ} (nth ss x) 0 {n = y} (omega arith))) (omega arith)
       go (no n) = reached-fine (l .reached x n) .words
 
-  sounds-lent : {cs : List ℕ} → Lent ss cs → Sounds (cap a) ss
+  pub sounds-lent : {cs : List ℕ} → Lent ss cs → Sounds (cap a) ss
   sounds-lent {cs} l = sounds a b c d cs (l .accepted) (words-lent l) (λ x n. reached-fine (l .reached x n) .sound)
 
   module _ {cs : List ℕ} (l : Lent ss cs) where
+    -- "Starting reads the top word and reports one read.", and does not refuse
+    pub walk-starts : (k : Cursor) → formulaStartIn ss cs k ≡ record { cursor = startAt (top (cap a)) (formulaWords ss cs (top (cap a)) 0); reads = 1; answer = Paused }
+    unfolding formulaStartIn
+    walk-starts k = rw (l .accepted)
+
     -- "However it is cut by read budgets, a walk that ends has handed out exactly the formula's members, each once, ascending, and reported
     -- the count of words that the definition says it reads." Its calls may be next and fill in any mix.
     pub walk-members : (k : Cursor) (q : List Ask) → walkOver ss cs k q .over ≡ true → FormulaWalked ss cs k (walkOver ss cs k q)
@@ -53,6 +61,15 @@ module _ (a b c d : List ℕ) where
     -- "On one store or a union of stores, after the top word, at most three words are read before each next member and none before the end."
     pub walk-gaps : UnionCodes cs → (k : Cursor) (bs : List ℕ) → Spaced (top (cap a)) (nextOver ss cs) bs (formulaStartIn ss cs k .cursor) 0
     walk-gaps = formula-spaced a b c d cs (l .accepted) (sounds-lent l)
+
+    -- and of next and fill in any mix, which hand out and read what next alone does
+    pub walk-fill-gaps : UnionCodes cs → (k : Cursor) (q : List Ask) → SpacedAs (top (cap a)) (nextOver ss cs) (fillOver ss cs) q (formulaStartIn ss cs k .cursor)
+    walk-fill-gaps = formula-fill-spaced a b c d cs (l .accepted) (sounds-lent l)
+
+    -- so they have read at most three words for each member handed out and three more, and where they ended none more
+    pub walk-reads : UnionCodes cs → (k : Cursor) (q : List Ask)
+        → (let w = walkOver ss cs k q in (w .total ≤ top (cap a) * suc (length (w .members))) × (w .over ≡ true → w .total ≤ top (cap a) * length (w .members)))
+    walk-reads u k q = spaced-reads (walk-fill-gaps u k q)
 
   -- "An intersection reads no more than either side alone."
   module _ (f g : List ℕ) (left : Lent ss f) (right : Lent ss g) (l : Lent ss (f ++ (g ++ 16 ∷ []))) (k m : Cursor) (bs qs : List Ask) where

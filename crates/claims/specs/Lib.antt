@@ -2,3 +2,4 @@ pub mod Reached
 pub mod Lent
 pub mod Again
 pub mod Calls
+pub mod Stores

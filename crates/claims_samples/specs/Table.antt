@@ -6,7 +6,7 @@ use Prim.Native.Nat.{ℕ, _+_, _^_}
 use lib.ListN.{replicate, take}
 use Rattle.util.specs.Row.{offsetsOf, rowOf}
 use Rattle.average.specs.Average.{averageOf}
-use Rattle.store.specs.Layout.{storeLen}
+use Rattle.store.specs.Layout.{topMost, storeLen}
 use Rattle.set_edit.specs.Calls.{addOf, removeOf, addListOf}
 use Rattle.set_whole.specs.Calls.{openOf, isEmptyOf}
 use Rattle.set_layers.specs.Calls.{wordOf}
@@ -39,7 +39,7 @@ setOf N ids = addListOf (new N) ids .lent
 
 -- a cursor of zeros, to start a walk with
 abbrev pub zeros : Cursor
-zeros = startAt 3 0
+zeros = startAt topMost 0
 
 -- whether the walk ended, its reads with those of the start, its members
 abbrev told : ℕ → Run → List ℕ

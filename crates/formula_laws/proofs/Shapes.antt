@@ -111,3 +111,7 @@ trees-union (c ∷ cs) st o u = trees-union cs (grow (codeKind c) c st) (o .1) (
 
 pub tree-union : (ss : List (List ℕ)) (cs : List ℕ) → isFormula ss cs ≡ true → UnionCodes cs → Union (treeOf cs)
 tree-union ss cs e o = subst Unions (leaves-one ss cs [] e) (trees-union cs [] o tt) .0
+
+-- such codes there are: of one store, and of four
+pub union-some : UnionCodes (0 ∷ []) × UnionCodes (0 ∷ 1 ∷ 17 ∷ 2 ∷ 17 ∷ 3 ∷ 17 ∷ [])
+union-some = ((inl (omega arith), tt), (inl (omega arith), (inl (omega arith), (inr refl, (inl (omega arith), (inr refl, (inl (omega arith), (inr refl, tt))))))))

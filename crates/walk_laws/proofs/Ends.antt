@@ -3,15 +3,16 @@
 use mathlib.Core.Bool.{true, true≢false}
 use mathlib.Core.List.{List, [], _∷_, _++_, append-nil}
 use mathlib.Core.Path.{_≡_, refl, sym, ap, _∙_}
-use Prim.Native.Nat.{ℕ, suc, _+_, _≤_, _<_}
+use Prim.Native.Nat.{ℕ, zero, suc, _+_, _≤_, _<_}
 use native.Mathlib.Omega.{arith}
-use lib.ListN.{length, length-append}
+use lib.ListN.{length, length-append, replicate}
 use Rattle.walk.specs.Walk.{startAt}
 use Rattle.walk.specs.declared.Cursor.{Cursor}
 use Rattle.walk_fill.specs.Fill.{Filled}
 use Rattle.walk_fill.specs.declared.Stop.{Stop}
 use Rattle.walk_fill.specs.declared.Stop.the-variants.{Full, Paused as StopPaused, End as StopEnd, Refused as StopRefused}
 use Rattle.walk_laws.specs.Calls.{Ask, budgetOf, roomOf, Stopped, Some, Run, onward, runBy, fillAt}
+use Rattle.walk_laws.specs.Calls.Ask.{one}
 use Rattle.walk_laws.specs.Calls.Stopped.{full, paused, ended}
 use Rattle.walk_laws.specs.Under.{allIds, allReads}
 use Rattle.walk_laws.specs.Walks.{Bounded}
@@ -77,3 +78,8 @@ module _ (lw : ℕ → ℕ → ℕ) (bounded : Bounded lw) (t : ℕ) where
   pub walk-ends : (l : List Ask) → Some l → allReads lw t + length (allIds lw t) ≤ length l → runBy (fillAt lw t) (startAt t (lw t 0)) l .over ≡ true
   walk-ends l s h =
       ends-from l (startAt t (lw t 0)) (start-wf t (lw t 0) (bounded t 0)) s (omega (arith, start-cost lw t, ap length (start-rest lw t)))
+
+-- such calls there are, of any number
+pub some-asks : (n : ℕ) → Some (replicate n (one 1))
+some-asks zero = tt
+some-asks (suc n) = (omega arith, omega arith, some-asks n)

@@ -8,4 +8,5 @@ pub mod Members
 pub mod Gaps
 pub mod Fewer
 pub mod Called
+pub mod Bounds
 pub mod Store
