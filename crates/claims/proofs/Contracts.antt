@@ -56,131 +56,131 @@ use Rattle.claims.specs.Calls.Call.{«open», add, remove, contains, add
 
 -- ---- calls on one store
 
-pub open-is : (open-asks ≡ λ κs a. Unit {0}) × (open-tells ≡ λ κs a z e. Meets (promiseOf («open» (now (a .0)) (a .1 .0))) z (now (e .0)))
-open-is = (refl, refl)
+pub open-promised : (open-asks ≡ λ κs a. Unit {0}) × (open-tells ≡ λ κs a z e. Meets (promiseOf («open» (now (a .0)) (a .1 .0))) z (now (e .0)))
+open-promised = (refl, refl)
 
-pub add-is : (add-asks ≡ λ κs a. Unit {0}) × (add-tells ≡ λ κs a z e. Meets (promiseOf (add (now (a .0)) (a .1 .0))) z (now (e .0)))
-add-is = (refl, refl)
+pub add-promised : (add-asks ≡ λ κs a. Unit {0}) × (add-tells ≡ λ κs a z e. Meets (promiseOf (add (now (a .0)) (a .1 .0))) z (now (e .0)))
+add-promised = (refl, refl)
 
-pub remove-is : (remove-asks ≡ λ κs a. Unit {0}) × (remove-tells ≡ λ κs a z e. Meets (promiseOf (remove (now (a .0)) (a .1 .0))) z (now (e .0)))
-remove-is = (refl, refl)
+pub remove-promised : (remove-asks ≡ λ κs a. Unit {0}) × (remove-tells ≡ λ κs a z e. Meets (promiseOf (remove (now (a .0)) (a .1 .0))) z (now (e .0)))
+remove-promised = (refl, refl)
 
-pub contains-is : (contains-asks ≡ λ κs a. Unit {0}) × (contains-tells ≡ λ κs a z e. Meets (promiseOf (contains (now (a .0)) (a .1 .0))) z tt)
-contains-is = (refl, refl)
+pub contains-promised : (contains-asks ≡ λ κs a. Unit {0}) × (contains-tells ≡ λ κs a z e. Meets (promiseOf (contains (now (a .0)) (a .1 .0))) z tt)
+contains-promised = (refl, refl)
 
-pub addList-is : (addList-asks ≡ λ κs a. Unit {0}) × (addList-tells ≡ λ κs a z e. Meets (promiseOf (addList (now (a .0)) (now (a .1 .0)))) z (now (e .0)))
-addList-is = (refl, refl)
+pub addList-promised : (addList-asks ≡ λ κs a. Unit {0}) × (addList-tells ≡ λ κs a z e. Meets (promiseOf (addList (now (a .0)) (now (a .1 .0)))) z (now (e .0)))
+addList-promised = (refl, refl)
 
-pub isEmpty-is : (isEmpty-asks ≡ λ κs a. Unit {0}) × (isEmpty-tells ≡ λ κs a z e. Meets (promiseOf (isEmpty (now (a .0)))) z tt)
-isEmpty-is = (refl, refl)
+pub isEmpty-promised : (isEmpty-asks ≡ λ κs a. Unit {0}) × (isEmpty-tells ≡ λ κs a z e. Meets (promiseOf (isEmpty (now (a .0)))) z tt)
+isEmpty-promised = (refl, refl)
 
-pub clear-is : (clear-asks ≡ λ κs a. Unit {0}) × (clear-tells ≡ λ κs a z e. Meets (promiseOf (clear (now (a .0)))) z (now (e .0)))
-clear-is = (refl, refl)
+pub clear-promised : (clear-asks ≡ λ κs a. Unit {0}) × (clear-tells ≡ λ κs a z e. Meets (promiseOf (clear (now (a .0)))) z (now (e .0)))
+clear-promised = (refl, refl)
 
-pub containsSet-is : (containsSet-asks ≡ λ κs a. Unit {0}) × (containsSet-tells ≡ λ κs a z e. Meets (promiseOf (containsSet (now (a .0)) (now (a .1 .0)))) z tt)
-containsSet-is = (refl, refl)
+pub containsSet-promised : (containsSet-asks ≡ λ κs a. Unit {0}) × (containsSet-tells ≡ λ κs a z e. Meets (promiseOf (containsSet (now (a .0)) (now (a .1 .0)))) z tt)
+containsSet-promised = (refl, refl)
 
-pub equal-is : (equal-asks ≡ λ κs a. Unit {0}) × (equal-tells ≡ λ κs a z e. Meets (promiseOf (equal (now (a .0)) (now (a .1 .0)))) z tt)
-equal-is = (refl, refl)
+pub equal-promised : (equal-asks ≡ λ κs a. Unit {0}) × (equal-tells ≡ λ κs a z e. Meets (promiseOf (equal (now (a .0)) (now (a .1 .0)))) z tt)
+equal-promised = (refl, refl)
 
-pub getFromLayer-is : (getFromLayer-asks ≡ λ κs a. Unit {0}) × (getFromLayer-tells ≡ λ κs a z e. Meets (promiseOf (getFromLayer (now (a .0)) (a .1 .0) (a .1 .1 .0))) z tt)
-getFromLayer-is = (refl, refl)
+pub getFromLayer-promised : (getFromLayer-asks ≡ λ κs a. Unit {0}) × (getFromLayer-tells ≡ λ κs a z e. Meets (promiseOf (getFromLayer (now (a .0)) (a .1 .0) (a .1 .1 .0))) z tt)
+getFromLayer-promised = (refl, refl)
 
-pub averageOnes-is : (averageOnes-asks ≡ λ κs a. Unit {0}) × (averageOnes-tells ≡ λ κs a z e. Meets (promiseOf (averageOnes (a .0))) z tt)
-averageOnes-is = (refl, refl)
+pub averageOnes-promised : (averageOnes-asks ≡ λ κs a. Unit {0}) × (averageOnes-tells ≡ λ κs a z e. Meets (promiseOf (averageOnes (a .0))) z tt)
+averageOnes-promised = (refl, refl)
 
-pub firstFree-is : (firstFree-asks ≡ λ κs a. Unit {0}) × (firstFree-tells ≡ λ κs a z e. Meets (promiseOf (firstFree (now (a .0)))) z tt)
-firstFree-is = (refl, refl)
+pub firstFree-promised : (firstFree-asks ≡ λ κs a. Unit {0}) × (firstFree-tells ≡ λ κs a z e. Meets (promiseOf (firstFree (now (a .0)))) z tt)
+firstFree-promised = (refl, refl)
 
-pub isSound-is : (isSound-asks ≡ λ κs a. Unit {0}) × (isSound-tells ≡ λ κs a z e. Meets (promiseOf (isSound (now (a .0)))) z tt)
-isSound-is = (refl, refl)
+pub isSound-promised : (isSound-asks ≡ λ κs a. Unit {0}) × (isSound-tells ≡ λ κs a z e. Meets (promiseOf (isSound (now (a .0)))) z tt)
+isSound-promised = (refl, refl)
 
-pub rebuild-is : (rebuild-asks ≡ λ κs a. Unit {0}) × (rebuild-tells ≡ λ κs a z e. Meets (promiseOf (rebuild (now (a .0)))) z (now (e .0)))
-rebuild-is = (refl, refl)
+pub rebuild-promised : (rebuild-asks ≡ λ κs a. Unit {0}) × (rebuild-tells ≡ λ κs a z e. Meets (promiseOf (rebuild (now (a .0)))) z (now (e .0)))
+rebuild-promised = (refl, refl)
 
 -- a layer handed back: its words are its promise by Settles' `part-meets`, and it is the caller's own part
-pub layer0-is : (layer0-asks ≡ λ κs a. Unit {0}) × (layer0-tells ≡ λ κs a z e. OwnPart (a .0) z 0)
-layer0-is = (refl, refl)
+pub layer0-promised : (layer0-asks ≡ λ κs a. Unit {0}) × (layer0-tells ≡ λ κs a z e. OwnPart (a .0) z 0)
+layer0-promised = (refl, refl)
 
-pub layer1-is : (layer1-asks ≡ λ κs a. Unit {0}) × (layer1-tells ≡ λ κs a z e. OwnPart (a .0) z 1)
-layer1-is = (refl, refl)
+pub layer1-promised : (layer1-asks ≡ λ κs a. Unit {0}) × (layer1-tells ≡ λ κs a z e. OwnPart (a .0) z 1)
+layer1-promised = (refl, refl)
 
-pub layer2-is : (layer2-asks ≡ λ κs a. Unit {0}) × (layer2-tells ≡ λ κs a z e. OwnPart (a .0) z 2)
-layer2-is = (refl, refl)
+pub layer2-promised : (layer2-asks ≡ λ κs a. Unit {0}) × (layer2-tells ≡ λ κs a z e. OwnPart (a .0) z 2)
+layer2-promised = (refl, refl)
 
 -- ---- in place
 
-pub bitorAssign-is : (bitorAssign-asks ≡ λ κs a. Unit {0}) × (bitorAssign-tells ≡ λ κs a z e. Meets (promiseOf (bitorAssign (now (a .0)) (now (a .1 .0)))) z (now (e .0)))
-bitorAssign-is = (refl, refl)
+pub bitorAssign-promised : (bitorAssign-asks ≡ λ κs a. Unit {0}) × (bitorAssign-tells ≡ λ κs a z e. Meets (promiseOf (bitorAssign (now (a .0)) (now (a .1 .0)))) z (now (e .0)))
+bitorAssign-promised = (refl, refl)
 
-pub bitandAssign-is : (bitandAssign-asks ≡ λ κs a. Unit {0}) × (bitandAssign-tells ≡ λ κs a z e. Meets (promiseOf (bitandAssign (now (a .0)) (now (a .1 .0)))) z (now (e .0)))
-bitandAssign-is = (refl, refl)
+pub bitandAssign-promised : (bitandAssign-asks ≡ λ κs a. Unit {0}) × (bitandAssign-tells ≡ λ κs a z e. Meets (promiseOf (bitandAssign (now (a .0)) (now (a .1 .0)))) z (now (e .0)))
+bitandAssign-promised = (refl, refl)
 
-pub bitxorAssign-is : (bitxorAssign-asks ≡ λ κs a. Unit {0}) × (bitxorAssign-tells ≡ λ κs a z e. Meets (promiseOf (bitxorAssign (now (a .0)) (now (a .1 .0)))) z (now (e .0)))
-bitxorAssign-is = (refl, refl)
+pub bitxorAssign-promised : (bitxorAssign-asks ≡ λ κs a. Unit {0}) × (bitxorAssign-tells ≡ λ κs a z e. Meets (promiseOf (bitxorAssign (now (a .0)) (now (a .1 .0)))) z (now (e .0)))
+bitxorAssign-promised = (refl, refl)
 
 -- ---- walks: the cursor comes first
 
 pub start-promised : (start-asks ≡ λ κs a. Unit {0}) × (start-tells ≡ λ κs a z e. Meets (promiseOf (start (now (a .1 .0)) (a .0))) z tt)
 start-promised = (refl, refl)
 
-pub next-is : (next-asks ≡ λ κs a. Unit {0}) × (next-tells ≡ λ κs a z e. Meets (promiseOf (next (now (a .1 .0)) (a .0) (a .1 .1 .0))) z tt)
-next-is = (refl, refl)
+pub next-promised : (next-asks ≡ λ κs a. Unit {0}) × (next-tells ≡ λ κs a z e. Meets (promiseOf (next (now (a .1 .0)) (a .0) (a .1 .1 .0))) z tt)
+next-promised = (refl, refl)
 
-pub fill-is : (fill-asks ≡ λ κs a. Unit {0}) × (fill-tells ≡ λ κs a z e. Meets (promiseOf (fill (now (a .1 .0)) (a .0) (a .1 .1 .0) (now (a .1 .1 .1 .0)))) z (now (e .1 .1 .1 .0)))
-fill-is = (refl, refl)
+pub fill-promised : (fill-asks ≡ λ κs a. Unit {0}) × (fill-tells ≡ λ κs a z e. Meets (promiseOf (fill (now (a .1 .0)) (a .0) (a .1 .1 .0) (now (a .1 .1 .1 .0)))) z (now (e .1 .1 .1 .0)))
+fill-promised = (refl, refl)
 
 -- ---- formulas: the codes come before the four slices
 
-pub containsF-is : (containsF-asks ≡ λ κs a. Unit {0}) × (containsF-tells ≡ λ κs a z e. Meets (promiseOf (containsF (four (now (a .1 .0)) (now (a .1 .1 .0)) (now (a .1 .1 .1 .0)) (now (a .1 .1 .1 .1 .0))) (now (a .0)) (a .1 .1 .1 .1 .1 .0))) z tt)
-containsF-is = (refl, refl)
+pub containsF-promised : (containsF-asks ≡ λ κs a. Unit {0}) × (containsF-tells ≡ λ κs a z e. Meets (promiseOf (containsF (four (now (a .1 .0)) (now (a .1 .1 .0)) (now (a .1 .1 .1 .0)) (now (a .1 .1 .1 .1 .0))) (now (a .0)) (a .1 .1 .1 .1 .1 .0))) z tt)
+containsF-promised = (refl, refl)
 
-pub isEmptyF-is : (isEmptyF-asks ≡ λ κs a. Unit {0}) × (isEmptyF-tells ≡ λ κs a z e. Meets (promiseOf (isEmptyF (four (now (a .1 .0)) (now (a .1 .1 .0)) (now (a .1 .1 .1 .0)) (now (a .1 .1 .1 .1 .0))) (now (a .0)))) z tt)
-isEmptyF-is = (refl, refl)
+pub isEmptyF-promised : (isEmptyF-asks ≡ λ κs a. Unit {0}) × (isEmptyF-tells ≡ λ κs a z e. Meets (promiseOf (isEmptyF (four (now (a .1 .0)) (now (a .1 .1 .0)) (now (a .1 .1 .1 .0)) (now (a .1 .1 .1 .1 .0))) (now (a .0)))) z tt)
+isEmptyF-promised = (refl, refl)
 
-pub getFromLayerF-is : (getFromLayerF-asks ≡ λ κs a. Unit {0}) × (getFromLayerF-tells ≡ λ κs a z e. Meets (promiseOf (getFromLayerF (four (now (a .1 .0)) (now (a .1 .1 .0)) (now (a .1 .1 .1 .0)) (now (a .1 .1 .1 .1 .0))) (now (a .0)) (a .1 .1 .1 .1 .1 .0) (a .1 .1 .1 .1 .1 .1 .0))) z tt)
-getFromLayerF-is = (refl, refl)
+pub getFromLayerF-promised : (getFromLayerF-asks ≡ λ κs a. Unit {0}) × (getFromLayerF-tells ≡ λ κs a z e. Meets (promiseOf (getFromLayerF (four (now (a .1 .0)) (now (a .1 .1 .0)) (now (a .1 .1 .1 .0)) (now (a .1 .1 .1 .1 .0))) (now (a .0)) (a .1 .1 .1 .1 .1 .0) (a .1 .1 .1 .1 .1 .1 .0))) z tt)
+getFromLayerF-promised = (refl, refl)
 
-pub startF-is : (startF-asks ≡ λ κs a. Unit {0}) × (startF-tells ≡ λ κs a z e. Meets (promiseOf (startF (four (now (a .1 .1 .0)) (now (a .1 .1 .1 .0)) (now (a .1 .1 .1 .1 .0)) (now (a .1 .1 .1 .1 .1 .0))) (now (a .1 .0)) (a .0))) z tt)
-startF-is = (refl, refl)
+pub startF-promised : (startF-asks ≡ λ κs a. Unit {0}) × (startF-tells ≡ λ κs a z e. Meets (promiseOf (startF (four (now (a .1 .1 .0)) (now (a .1 .1 .1 .0)) (now (a .1 .1 .1 .1 .0)) (now (a .1 .1 .1 .1 .1 .0))) (now (a .1 .0)) (a .0))) z tt)
+startF-promised = (refl, refl)
 
-pub nextF-is : (nextF-asks ≡ λ κs a. Unit {0}) × (nextF-tells ≡ λ κs a z e. Meets (promiseOf (nextF (four (now (a .1 .1 .0)) (now (a .1 .1 .1 .0)) (now (a .1 .1 .1 .1 .0)) (now (a .1 .1 .1 .1 .1 .0))) (now (a .1 .0)) (a .0) (a .1 .1 .1 .1 .1 .1 .0))) z tt)
-nextF-is = (refl, refl)
+pub nextF-promised : (nextF-asks ≡ λ κs a. Unit {0}) × (nextF-tells ≡ λ κs a z e. Meets (promiseOf (nextF (four (now (a .1 .1 .0)) (now (a .1 .1 .1 .0)) (now (a .1 .1 .1 .1 .0)) (now (a .1 .1 .1 .1 .1 .0))) (now (a .1 .0)) (a .0) (a .1 .1 .1 .1 .1 .1 .0))) z tt)
+nextF-promised = (refl, refl)
 
-pub fillF-is : (fillF-asks ≡ λ κs a. Unit {0}) × (fillF-tells ≡ λ κs a z e. Meets (promiseOf (fillF (four (now (a .1 .1 .0)) (now (a .1 .1 .1 .0)) (now (a .1 .1 .1 .1 .0)) (now (a .1 .1 .1 .1 .1 .0))) (now (a .1 .0)) (a .0) (a .1 .1 .1 .1 .1 .1 .0) (now (a .1 .1 .1 .1 .1 .1 .1 .0)))) z (now (e .1 .1 .1 .1 .1 .1 .1 .0)))
-fillF-is = (refl, refl)
+pub fillF-promised : (fillF-asks ≡ λ κs a. Unit {0}) × (fillF-tells ≡ λ κs a z e. Meets (promiseOf (fillF (four (now (a .1 .1 .0)) (now (a .1 .1 .1 .0)) (now (a .1 .1 .1 .1 .0)) (now (a .1 .1 .1 .1 .1 .0))) (now (a .1 .0)) (a .0) (a .1 .1 .1 .1 .1 .1 .0) (now (a .1 .1 .1 .1 .1 .1 .1 .0)))) z (now (e .1 .1 .1 .1 .1 .1 .1 .0)))
+fillF-promised = (refl, refl)
 
 -- ---- maps
 
-pub write-is : (write-asks ≡ λ κs a. Unit {0}) × (write-tells ≡ λ κs a z e. Meets (promiseOf (write (now (a .0)) (now (a .1 .0)))) z (now (e .1 .0)))
-write-is = (refl, refl)
+pub write-promised : (write-asks ≡ λ κs a. Unit {0}) × (write-tells ≡ λ κs a z e. Meets (promiseOf (write (now (a .0)) (now (a .1 .0)))) z (now (e .1 .0)))
+write-promised = (refl, refl)
 
-pub read-is : (read-asks ≡ λ κs a. Unit {0}) × (read-tells ≡ λ κs a z e. Meets (promiseOf (read (now (a .0)) (now (a .1 .0)))) z (now (e .1 .0)))
-read-is = (refl, refl)
+pub read-promised : (read-asks ≡ λ κs a. Unit {0}) × (read-tells ≡ λ κs a z e. Meets (promiseOf (read (now (a .0)) (now (a .1 .0)))) z (now (e .1 .0)))
+read-promised = (refl, refl)
 
-pub mapLength-is : (mapLength-asks ≡ λ κs a. Unit {0}) × (mapLength-tells ≡ λ κs a z e. Meets (promiseOf (mapLength (now (a .0)))) z tt)
-mapLength-is = (refl, refl)
+pub mapLength-promised : (mapLength-asks ≡ λ κs a. Unit {0}) × (mapLength-tells ≡ λ κs a z e. Meets (promiseOf (mapLength (now (a .0)))) z tt)
+mapLength-promised = (refl, refl)
 
-pub mapCapacity-is : (mapCapacity-asks ≡ λ κs a. Unit {0}) × (mapCapacity-tells ≡ λ κs a z e. Meets (promiseOf (mapCapacity (now (a .0)))) z tt)
-mapCapacity-is = (refl, refl)
+pub mapCapacity-promised : (mapCapacity-asks ≡ λ κs a. Unit {0}) × (mapCapacity-tells ≡ λ κs a z e. Meets (promiseOf (mapCapacity (now (a .0)))) z tt)
+mapCapacity-promised = (refl, refl)
 
 -- ---- the reader: where a struct with a reference is taken or handed back, the contract is the function's `spec`, and what it requires is
 -- nothing. The equations of a step are its promise by Settles' `moves-meets` and `first-meets`.
 
 module _ {M : Type 1} (𝓤 : URA M) (H : Heap 𝓤) (A : Atoms 𝓤) (at-mem : Memory → SProp 𝓤) (run : Routine → Fun 𝓤) where
-  pub iterR-is : iter.spec 𝓤 H A at-mem run ≡ closing 𝓤 H A iter.ended (λ κs a. record {
+  pub iterR-promised : iter.spec 𝓤 H A at-mem run ≡ closing 𝓤 H A iter.ended (λ κs a. record {
     ghost = Unit {0};
     requires = λ g. emp 𝓤;
     ensures = λ g z e. fact 𝓤 (Meets (promiseOf (iterR (a .0))) z tt);
   })
-  iterR-is = refl
+  iterR-promised = refl
 
-  pub nextR-is : next-of.spec 𝓤 H A at-mem run ≡ closing 𝓤 H A next-of.ended (λ κs a. record {
+  pub nextR-promised : next-of.spec 𝓤 H A at-mem run ≡ closing 𝓤 H A next-of.ended (λ κs a. record {
     ghost = Unit {0};
     requires = λ g. emp 𝓤;
     ensures = λ g z e. let it = now (a .0) in fact 𝓤 (Moves it (nextIn (now (it .store)) (it .cursor) (a .1 .0)) z (now (e .0)));
   })
-  nextR-is = refl
+  nextR-promised = refl
 
-pub firstR-is : (firstR-asks ≡ λ κs a. Unit {0}) × (firstR-tells ≡ λ κs a z e. z ≡ told (nextIn (now (a .0)) (startedOf (now (a .0))) (a .1 .0)))
-firstR-is = (refl, refl)
+pub firstR-promised : (firstR-asks ≡ λ κs a. Unit {0}) × (firstR-tells ≡ λ κs a z e. z ≡ told (nextIn (now (a .0)) (startedOf (now (a .0))) (a .1 .0)))
+firstR-promised = (refl, refl)

@@ -11,7 +11,7 @@ use Rattle.walk.specs.Calls.{startIn}
 use Rattle.walk.specs.Walk.{startAt}
 use Rattle.walk.specs.declared.Cursor.{Cursor}
 use Rattle.walk.specs.declared.Next.the-variants.{Paused}
-use Rattle.walk.proofs.Answers.{start-is}
+use Rattle.walk.proofs.Answers.{started-is}
 use Rattle.walk_laws.specs.Calls.{Ask, Some, AllStopped}
 use Rattle.walk_laws.specs.Under.{allReads}
 use Rattle.walk_laws.specs.Walks.{Spaced, SpacedAs, nextOn, fillOn, callOn, walkOn, Walked}
@@ -28,7 +28,7 @@ module _ {N : ℕ} {s : List ℕ} (r : Reached N s) where
 
   -- "Starting reads the top word and reports one read.", and does not refuse
   pub one-starts : (k : Cursor) → startIn s k ≡ record { cursor = startAt (top N) (word N s (top N) 0); reads = 1; answer = Paused }
-  one-starts = start-is (reached-fine r .is)
+  one-starts = started-is (reached-fine r .is)
 
   -- "However it is cut by read budgets, a walk that ends has handed out exactly the .. members, each once, ascending, and reported the count
   -- of words that the definition says it reads." Its calls are start, and then next and fill in any mix.

@@ -23,8 +23,8 @@ use Rattle.walk_fill.specs.declared.Stop.the-variants.{Full, Paused, End}
 use Rattle.walk_laws.specs.Calls.{Stopped}
 use Rattle.walk_laws.specs.Calls.Stopped.{full, paused, ended}
 use Rattle.walk_laws.proofs.Fills.{fill-moved}
-use Rattle.walk_laws.proofs.Rest.{rest, cost, Moves, start-rest}
-use Rattle.walk_laws.proofs.Store.{fill-is}
+use Rattle.walk_laws.proofs.Rest.{rest, cost, MovesOn, start-rest}
+use Rattle.walk_laws.proofs.Store.{fill-as-defined}
 use Rattle.walk_laws.proofs.Taken.{Wf, start-wf, start-fine}
 use Rattle.walk_batches.specs.Calls.{startedOf}
 use Rattle.walk_batches.specs.Steps.{walked, goesOn}
@@ -49,7 +49,7 @@ pub record Turn (t : List ℕ) (b : ℕ) (c : Cursor) (r : Batch) (out : List �
   pub counted : r .count ≡ length ids
   pub inside : r .count ≤ 64
   pub at : At t out (r .cursor)
-  pub moves : Moves (word (cap t) t) (top (cap t)) c (r .cursor) ids (r .reads) (suc (top (cap t)))
+  pub moves : MovesOn (word (cap t) t) (top (cap t)) c (r .cursor) ids (r .reads) (suc (top (cap t)))
   pub kept : Stopped b 64 (r .stop) (length ids) (r .reads)
   pub over : r .stop ≡ End → ahead t (r .cursor) ≡ []
 
@@ -79,7 +79,7 @@ module _ (t : List ℕ) (is : isStore t ≡ true) (small : Words64 t) where
   pub turn : {b : ℕ} {ids out : List ℕ} {c : Cursor} {r : Batch} → At t ids c → Settled batchPaper (fillOf t c b ids) r out → Turn t b c r out
   turn {b} {ids} {out} {c} {r} g a =
       let f = fillFrom lw k 64 b c in
-      let e : fillIn t c b (length ids) ≡ f = ap (fillIn t c b) (g .long) ∙ fill-is t is small b 64 c (g .fine) in
+      let e : fillIn t c b (length ids) ≡ f = ap (fillIn t c b) (g .long) ∙ fill-as-defined t is small b 64 c (g .fine) in
       let z = settles {r′ = batch (fillIn t c b (length ids))} a (record { answer = refl; memory = refl }) in
       let m = fill-moved lw (word-lt (cap t) t small) k 64 b c (g .wf) in
       let n : length (f .ids) ≤ 64 = inside-of (m .kept) in

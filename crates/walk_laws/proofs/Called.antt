@@ -15,7 +15,7 @@ use Rattle.walk_laws.specs.Calls.{Ask, budgetOf, roomOf, alone, askedOf,
 use Rattle.walk_laws.specs.Calls.Ask.{one, many}
 use Rattle.walk_laws.specs.Under.{allIds, allReads}
 use Rattle.walk_laws.specs.Walks.{Bounded, Full, spacedBy, Spaced, SpacedAs}
-use Rattle.walk_laws.proofs.Ends.{walk-ends, walk-all}
+use Rattle.walk_laws.proofs.Ends.{run-ends, walk-all}
 use Rattle.walk_laws.proofs.Fills.{fill-moved}
 use Rattle.walk_laws.proofs.Gaps.{spaced}
 use Rattle.walk_laws.proofs.Nexts.{as-nexts}
@@ -92,7 +92,7 @@ module _ (lw : ℕ → ℕ → ℕ) (bounded : Bounded lw) (t : ℕ) (nexts : �
 
     -- and enough calls end it
     pub calls-over : (l : List Ask) → Some l → allReads lw t + length (allIds lw t) ≤ length l → runBy call begin l .over ≡ true
-    calls-over l some h = ap (λ (x : Run). x .over) (from-start l .0) ∙ walk-ends lw bounded t l some h
+    calls-over l some h = ap (λ (x : Run). x .over) (from-start l .0) ∙ run-ends lw bounded t l some h
 
     -- where every set summary bit stands over a word that is not 0, calls in any mix are as spaced as next alone
     pub calls-spaced-as : Full lw t → (l : List Ask) → SpacedAs t nexts fills l begin

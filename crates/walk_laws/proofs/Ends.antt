@@ -75,8 +75,8 @@ module _ (lw : ℕ → ℕ → ℕ) (bounded : Bounded lw) (t : ℕ) where
       (r .0 ∙ start-rest lw t, ap (λ (x : ℕ). 1 + x) (r .1) ∙ start-cost lw t)
 
   -- It ends once its calls, each with a budget and places of one or more, are as many as its members and its reads together.
-  pub walk-ends : (l : List Ask) → Some l → allReads lw t + length (allIds lw t) ≤ length l → runBy (fillAt lw t) (startAt t (lw t 0)) l .over ≡ true
-  walk-ends l s h =
+  pub run-ends : (l : List Ask) → Some l → allReads lw t + length (allIds lw t) ≤ length l → runBy (fillAt lw t) (startAt t (lw t 0)) l .over ≡ true
+  run-ends l s h =
       ends-from l (startAt t (lw t 0)) (start-wf t (lw t 0) (bounded t 0)) s (omega (arith, start-cost lw t, ap length (start-rest lw t)))
 
 -- such calls there are, of any number

@@ -21,7 +21,7 @@ use Rattle.walk_laws.specs.Calls.Stopped.{full, paused, ended}
 use Rattle.walk_laws.specs.Walks.{Bounded, KeptBudget}
 use Rattle.walk_laws.specs.Walks.KeptBudget.{member, paused as pausedAt, ended as endedAt}
 use Rattle.walk_laws.proofs.Prefixes.{next-fine}
-use Rattle.walk_laws.proofs.Rest.{rest, cost, Moves, gone, Moved, moved-next}
+use Rattle.walk_laws.proofs.Rest.{rest, cost, MovesOn, gone, MovedOn, moved-next}
 use Rattle.walk_laws.proofs.Taken.{Wf}
 
 -- ---- one next
@@ -71,14 +71,14 @@ stopped-by b m End r (endedAt h) c on s = ended {n = 0} (omega arith) h
 module _ (lw : ℕ → ℕ → ℕ) (t : ℕ) where
   -- What the cursor had to hand out and to read is what this fill did and what its cursor has; at the end nothing is left.
   pub record FillMoved (b m : ℕ) (c : Cursor) (f : Filled) : Type 0 where
-    pub moves : Moves lw t c (f .cursor) (f .ids) (f .reads) (suc t)
+    pub moves : MovesOn lw t c (f .cursor) (f .ids) (f .reads) (suc t)
     pub wf : Wf t (f .cursor)
     pub fine : Fine t (c .prefix) → Fine t (f .cursor .prefix)
     pub kept : Keeps b m f
     pub over : f .stop ≡ StopEnd → (rest lw t (f .cursor) (suc t) ≡ []) × (cost lw t (f .cursor) (suc t) ≡ 0)
 
 module _ (lw : ℕ → ℕ → ℕ) (bounded : Bounded lw) (t : ℕ) where
-  by-answer : (a : Step) (c : Cursor) → Moved lw t c a → (b m : ℕ) (f : Cursor → Filled) → Keeps b (suc m) (goOn (a .answer) (a .reads) (a .cursor) f)
+  by-answer : (a : Step) (c : Cursor) → MovedOn lw t c a → (b m : ℕ) (f : Cursor → Filled) → Keeps b (suc m) (goOn (a .answer) (a .reads) (a .cursor) f)
       → (Fine t (c .prefix) → Fine t (a .cursor .prefix)) → FillMoved lw t (b - a .reads) m (a .cursor) (f (a .cursor))
       → FillMoved lw t b (suc m) c (goOn (a .answer) (a .reads) (a .cursor) f)
   by-answer a c mv b m f kept fine later = go (a .answer) refl kept

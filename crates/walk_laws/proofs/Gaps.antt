@@ -19,7 +19,7 @@ use Rattle.walk.specs.declared.Step.{Step}
 use Rattle.walk.proofs.Cursors.{Low, low-found, prefix-top}
 use Rattle.walk.proofs.Turns.{next-gives, next-done, next-paused, next-reads}
 use Rattle.walk_laws.specs.Walks.{Bounded, Full, spacedBy, Spaced}
-use Rattle.walk_laws.proofs.Members.{bit-place}
+use Rattle.walk_laws.proofs.Members.{bit-at-place}
 use Rattle.walk_laws.proofs.Taken.{Wf, taken-mask, taken-prefix, taken-mask-up, taken-mask-else, taken-prefix-else, taken-wf, handed-wf, start-wf, start-mask, start-below}
 
 -- taking the lowest bit of a word sets none
@@ -55,7 +55,7 @@ module _ (lw : ℕ → ℕ → ℕ) (t : ℕ) where
         go : Dec (suc k ≡ j) → Dec (suc k ≡ suc j) → 0 < lw k (prefixAt t (d .prefix) (suc k) + b)
         go (yes s) n =
             subst (λ (x : ℕ). 0 < lw k (x + b)) (sym (ap (prefixAt t (d .prefix)) s ∙ taken-prefix t c j q (lw j q) wf h))
-            (full k (q * 64 + b) l (bit-place lw (suc k) q b g ∙ ap (λ (x : ℕ). bit (lw x q) b) s ∙ ap (λ (x : ℕ). bit x b) (sym (taken-mask t c j q (lw j q) wf h))
+            (full k (q * 64 + b) l (bit-at-place lw (suc k) q b g ∙ ap (λ (x : ℕ). bit (lw x q) b) s ∙ ap (λ (x : ℕ). bit x b) (sym (taken-mask t c j q (lw j q) wf h))
             ∙ ap (λ (x : ℕ). bit (getD (d .masks) x 0) b) (sym s) ∙ e))
         go (no s) (yes n) =
             let m = getD (c .masks) (suc j) 0 in
@@ -168,7 +168,7 @@ module _ (lw : ℕ → ℕ → ℕ) (bounded : Bounded lw) (t : ℕ) (full : Ful
       go : Dec (suc k ≡ t) → 0 < lw k (prefixAt t (c .prefix) (suc k) + b)
       go (yes s) =
           subst (λ (x : ℕ). 0 < lw k (x + b)) (sym (prefix-top t (c .prefix) (suc k) (omega arith)))
-          (full k (0 * 64 + b) h (bit-place lw (suc k) 0 b g ∙ ap (λ (x : ℕ). bit (lw x 0) b) s ∙ ap (λ (x : ℕ). bit x b) (sym (start-mask t (lw t 0)))
+          (full k (0 * 64 + b) h (bit-at-place lw (suc k) 0 b g ∙ ap (λ (x : ℕ). bit (lw x 0) b) s ∙ ap (λ (x : ℕ). bit x b) (sym (start-mask t (lw t 0)))
           ∙ ap (λ (x : ℕ). bit (getD (c .masks) x 0) b) (sym s) ∙ e))
       go (no s) = absurd (omega (arith, sym e ∙ ap (λ (x : ℕ). bit x b) (start-below t (lw t 0) (suc k) (omega arith)) ∙ bit-of-zero b))
 

@@ -66,9 +66,9 @@ joined-none f (a ∷ l) b e m =
     ⊎-elim (λ (q : b ≡ a). ap f q ∙ none-long (f a) (omega (arith, n))) (λ q. joined-none f l b (none-long (gathered f l) (omega (arith, n))) q) (List·Memᴰ·cases-cons m)
 
 module _ (lw : ℕ → ℕ → ℕ) where
-  pub bit-place : (k p i : ℕ) → i < 64 → onAt lw k (p * 64 + i) ≡ bit (lw k p) i
+  pub bit-at-place : (k p i : ℕ) → i < 64 → onAt lw k (p * 64 + i) ≡ bit (lw k p) i
   unfolding onAt
-  bit-place k p i h =
+  bit-at-place k p i h =
       let d : (p * 64 + i) / 64 ≡ p = omega arith in
       let m : (p * 64 + i) % 64 ≡ i = omega arith in
       ap₂ (λ (x y : ℕ). bit (lw k x) y) d m
@@ -112,18 +112,18 @@ module _ (lw : ℕ → ℕ → ℕ) where
   under-none t bounded full (suc k) h p e =
       none-by (suc k) p (bounded (suc k) p)
       (λ b l o. let z = under-none t bounded full k (omega arith) (p * 64 + b) (nothing-below (suc k) p b l o e) in
-      omega (arith, z, full k (p * 64 + b) h (bit-place (suc k) p b l ∙ o)))
+      omega (arith, z, full k (p * 64 + b) h (bit-at-place (suc k) p b l ∙ o)))
 
   -- the ids below place p of layer k + 1 are those of its 64 ^ (k + 1) whose layer-0 bit is set
   under-places : (t : ℕ) → Clear lw t → (k : ℕ) → k ≤ t → (p : ℕ) → under lw (suc k) p ≡ places (onAt lw 0) (p * 64 ^ suc k) (64 ^ suc k)
   unfolding under bits
   under-places t clear zero h p =
-      joined-moved (bit (lw 0 p)) (onAt lw 0) (p * 64) 0 64 (λ i l u. bit-place 0 p i (omega arith))
+      joined-moved (bit (lw 0 p)) (onAt lw 0) (p * 64) 0 64 (λ i l u. bit-at-place 0 p i (omega arith))
       ∙ ap (λ (x : ℕ). places (onAt lw 0) x 64) (add-zero (p * 64))
   under-places t clear (suc k) h p =
       let n = 64 ^ suc k in
       joined-all (λ b. under lw (suc k) (p * 64 + b)) (bit (lw (suc k) p)) 0 64
-      (λ i l u e. under-empty k (p * 64 + i) (clear k (p * 64 + i) h (bit-place (suc k) p i (omega arith) ∙ e)))
+      (λ i l u e. under-empty k (p * 64 + i) (clear k (p * 64 + i) h (bit-at-place (suc k) p i (omega arith) ∙ e)))
       ∙ ap (λ (f : ℕ → List ℕ). allOf f 0 64) (fun-ext (λ b. under-places t clear k (omega arith) (p * 64 + b)
       ∙ ap (λ (x : ℕ). places (onAt lw 0) x n) (add-mul (p * 64) b n)))
       ∙ all-places (onAt lw 0) (p * 64 * n) n 0 64

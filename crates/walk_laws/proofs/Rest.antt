@@ -81,16 +81,16 @@ module _ (lw : ℕ → ℕ → ℕ) (t : ℕ) where
       ∙ ap (λ (x : ℕ). 0 + x) (scanReads-zero lw n (prefixAt t (c .prefix) n))
 
   -- what a step moves, of the layers below layer n: x is handed out, r reads are made, and the rest is left
-  pub record Moves (c d : Cursor) (x : List ℕ) (r n : ℕ) : Type 0 where
+  pub record MovesOn (c d : Cursor) (x : List ℕ) (r n : ℕ) : Type 0 where
     pub ids : rest c n ≡ x ++ rest d n
     pub count : cost c n ≡ r + cost d n
 
   -- layers from l on that a step leaves alone
   moves-above : (c d : Cursor) (x : List ℕ) (r l : ℕ)
       → ((k : ℕ) → l ≤ k → (getD (d .masks) k 0 ≡ getD (c .masks) k 0) × (prefixAt t (d .prefix) k ≡ prefixAt t (c .prefix) k))
-      → Moves c d x r l → (n : ℕ) → l ≤ n → Moves c d x r n
+      → MovesOn c d x r l → (n : ℕ) → l ≤ n → MovesOn c d x r n
   unfolding rest cost
-  moves-above c d x r l same h = le-ind (λ n. Moves c d x r n) h λ k le m. record {
+  moves-above c d x r l same h = le-ind (λ n. MovesOn c d x r n) h λ k le m. record {
     ids = ap₂ (λ (y : List ℕ) (s : List ℕ). y ++ s) (m .ids) (ap₂ (scan lw k) (sym (same k le .0)) (sym (same k le .1)))
         ∙ append-assoc x (rest d k) (scan lw k (getD (d .masks) k 0) (prefixAt t (d .prefix) k));
     count = ap₂ (λ (y s : ℕ). y + s) (m .count) (ap₂ (scanReads lw k) (sym (same k le .0)) (sym (same k le .1)))
@@ -101,7 +101,7 @@ module _ (lw : ℕ → ℕ → ℕ) (t : ℕ) where
 
 module _ (lw : ℕ → ℕ → ℕ) (t : ℕ) where
   -- layer 0's lowest bit is handed out
-  hand-moves : (c : Cursor) → Wf t c → 0 < getD (c .masks) 0 0 → Moves lw t c (handed c) (placeAt t c 0 ∷ []) 0 (suc t)
+  hand-moves : (c : Cursor) → Wf t c → 0 < getD (c .masks) 0 0 → MovesOn lw t c (handed c) (placeAt t c 0 ∷ []) 0 (suc t)
   unfolding handed less placeAt rest cost under readsUnder
   hand-moves c wf pos =
       let m = getD (c .masks) 0 0 in
@@ -117,7 +117,7 @@ module _ (lw : ℕ → ℕ → ℕ) (t : ℕ) where
 
   -- one word is read: nothing is handed out
   read-moves : (c : Cursor) (j : ℕ) → Wf t c → j < t → ((i : ℕ) → i < suc j → getD (c .masks) i 0 ≡ 0) → 0 < getD (c .masks) (suc j) 0
-      → Moves lw t c (descend lw t j c) [] 1 (suc t)
+      → MovesOn lw t c (descend lw t j c) [] 1 (suc t)
   unfolding rest cost under readsUnder scan scanReads placeAt
   read-moves c j wf h z pos =
       let q = placeAt t c (suc j) in
@@ -160,15 +160,15 @@ gone (Refused n) = []
 
 module _ (lw : ℕ → ℕ → ℕ) (t : ℕ) where
   -- THE INVARIANT. What the cursor had to hand out and to read is what this call did and what its cursor has; at the end nothing is left.
-  pub record Moved (c : Cursor) (a : Step) : Type 0 where
-    pub moves : Moves lw t c (a .cursor) (gone (a .answer)) (a .reads) (suc t)
+  pub record MovedOn (c : Cursor) (a : Step) : Type 0 where
+    pub moves : MovesOn lw t c (a .cursor) (gone (a .answer)) (a .reads) (suc t)
     pub wf : Wf t (a .cursor)
     pub ended : a .answer ≡ End → (rest lw t (a .cursor) (suc t) ≡ []) × (cost lw t (a .cursor) (suc t) ≡ 0)
 
-  moved-still : (c : Cursor) → Moves lw t c c [] 0 (suc t)
+  moved-still : (c : Cursor) → MovesOn lw t c c [] 0 (suc t)
   moved-still c = record { ids = refl; count = omega arith }
 
-  moved-more : (c d : Cursor) (a : Step) → Moves lw t c d [] 1 (suc t) → Moved d a → Moved c (more 1 a)
+  moved-more : (c d : Cursor) (a : Step) → MovesOn lw t c d [] 1 (suc t) → MovedOn d a → MovedOn c (more 1 a)
   moved-more c d a m r = record {
     moves = record { ids = m .ids ∙ r .moves .ids; count = omega (arith, m .count, r .moves .count) };
     wf = r .wf;
@@ -176,10 +176,10 @@ module _ (lw : ℕ → ℕ → ℕ) (t : ℕ) where
   }
 
   moved-by : (c : Cursor) → Wf t c → (f : ℕ → Step)
-      → ((j : ℕ) → j < t → Moves lw t c (descend lw t j c) [] 1 (suc t) → Moved c (f j)) → Moved c (byKind t c f (kind t c))
+      → ((j : ℕ) → j < t → MovesOn lw t c (descend lw t j c) [] 1 (suc t) → MovedOn c (f j)) → MovedOn c (byKind t c f (kind t c))
   moved-by c wf f g = go (lowLayer t c) (low-found (c .masks) 0 (suc t))
     where
-      up : (j : ℕ) → Low (c .masks) 0 (suc t) (suc j) → (b : Bool) → ltb j t ≡ b → Moved c (byKind t c f (cond b (reads j) done))
+      up : (j : ℕ) → Low (c .masks) 0 (suc t) (suc j) → (b : Bool) → ltb j t ≡ b → MovedOn c (byKind t c f (cond b (reads j) done))
       up j l true e =
           let h : j < t = ltb-true j t e in
           g j h (read-moves lw t c j wf h (λ i q. l .empty i (omega arith) q) (l .found (omega arith)))
@@ -188,12 +188,12 @@ module _ (lw : ℕ → ℕ → ℕ) (t : ℕ) where
           let z : (i : ℕ) → i < suc t → getD (c .masks) i 0 ≡ 0 = λ i q. l .empty i (omega arith) (omega arith) in
           record { moves = moved-still c; wf = wf; ended = λ _. (rest-empty lw t c (suc t) z, cost-empty lw t c (suc t) z) }
 
-      go : (n : ℕ) → Low (c .masks) 0 (suc t) n → Moved c (byKind t c f (kindOf t n))
+      go : (n : ℕ) → Low (c .masks) 0 (suc t) n → MovedOn c (byKind t c f (kindOf t n))
       go zero l = record { moves = hand-moves lw t c wf (l .found (omega arith)); wf = handed-wf t c wf; ended = λ e. absurd (end-member (placeAt t c 0) e) }
       go (suc j) l = up j l (ltb j t) refl
 
 module _ (lw : ℕ → ℕ → ℕ) (bounded : (k i : ℕ) → lw k i < 2 ^ 64) (t : ℕ) where
-  pub moved-next : (b : ℕ) (c : Cursor) → Wf t c → Moved lw t c (next lw t b c)
+  pub moved-next : (b : ℕ) (c : Cursor) → Wf t c → MovedOn lw t c (next lw t b c)
   unfolding next
   moved-next zero c wf = moved-by lw t c wf (λ j. paused c) (λ j h m. record { moves = moved-still lw t c; wf = wf; ended = λ e. absurd (end-paused e) })
   moved-next (suc b) c wf = moved-by lw t c wf (λ j. more 1 (next lw t b (descend lw t j c)))

@@ -67,8 +67,8 @@ module _ (s : List ℕ) (is : isStore s ≡ true) (small : Words64 s) where
   next-is : Nexts lw t (nextOn s)
   next-is b c f = sym (next-runs (store-is is) c b (fit-of t (c .prefix) f))
 
-  pub fill-is : Fills lw t (fillOn s)
-  fill-is b m c f = sym (fill-runs (store-is is) c b m (fit-of t (c .prefix) f))
+  pub fill-as-defined : Fills lw t (fillOn s)
+  fill-as-defined b m c f = sym (fill-runs (store-is is) c b m (fit-of t (c .prefix) f))
 
   start-cursor : (c : Cursor) → startIn s c .cursor ≡ startAt t (lw t 0)
   start-cursor c = ap (λ (x : Step). x .cursor) (started-is (store-is is) c)
@@ -79,21 +79,21 @@ module _ (s : List ℕ) (is : isStore s ≡ true) (small : Words64 s) where
   -- A STARTED WALK of a store, sound or not: no call of it refuses or reads past its budget, and a paused one has spent it
   pub walk-kept : (c : Cursor) (l : List Ask) → AllStopped (callOn s) l (startIn s c .cursor)
   walk-kept c l =
-      subst (AllStopped (callOn s) l) (sym (start-cursor c)) (calls-kept lw (word-lt (cap s) s small) t (nextOn s) (fillOn s) next-is fill-is l)
+      subst (AllStopped (callOn s) l) (sym (start-cursor c)) (calls-kept lw (word-lt (cap s) s small) t (nextOn s) (fillOn s) next-is fill-as-defined l)
 
   -- One that ends has handed out the ids below the top word and reported the definition's count; and enough calls end it.
   pub walk-defined : (c : Cursor) (l : List Ask) → walkOn s c l .over ≡ true
       → (walkOn s c l .members ≡ allIds lw t) × (startIn s c .reads + walkOn s c l .total ≡ allReads lw t)
   walk-defined c l e =
       let w = from-start c l in
-      let r = calls-defined lw (word-lt (cap s) s small) t (nextOn s) (fillOn s) next-is fill-is l (sym (ap (λ (x : Run). x .over) w) ∙ e) in (
+      let r = calls-defined lw (word-lt (cap s) s small) t (nextOn s) (fillOn s) next-is fill-as-defined l (sym (ap (λ (x : Run). x .over) w) ∙ e) in (
         ap (λ (x : Run). x .members) w ∙ r .0,
         ap₂ (λ (x : Step) (y : Run). x .reads + y .total) (started-is (store-is is) c) w ∙ r .1,
       )
 
   pub walk-over : (c : Cursor) (l : List Ask) → Some l → allReads lw t + length (allIds lw t) ≤ length l → walkOn s c l .over ≡ true
   walk-over c l some h =
-      ap (λ (x : Run). x .over) (from-start c l) ∙ calls-over lw (word-lt (cap s) s small) t (nextOn s) (fillOn s) next-is fill-is l some h
+      ap (λ (x : Run). x .over) (from-start c l) ∙ calls-over lw (word-lt (cap s) s small) t (nextOn s) (fillOn s) next-is fill-as-defined l some h
 
   -- at most three words, the layers below the top, before each next member, and none before the end, where every summary bit that is on
   -- stands over a word that is not 0: of next alone, and of next and fill in any mix
@@ -103,7 +103,7 @@ module _ (s : List ℕ) (is : isStore s ≡ true) (small : Words64 s) where
 
   walk-spaced-as : Full lw t → (c : Cursor) (l : List Ask) → SpacedAs t (nextOn s) (fillOn s) l (startIn s c .cursor)
   walk-spaced-as full c l =
-      subst (SpacedAs t (nextOn s) (fillOn s) l) (sym (start-cursor c)) (calls-spaced-as lw (word-lt (cap s) s small) t (nextOn s) (fillOn s) next-is fill-is full l)
+      subst (SpacedAs t (nextOn s) (fillOn s) l) (sym (start-cursor c)) (calls-spaced-as lw (word-lt (cap s) s small) t (nextOn s) (fillOn s) next-is fill-as-defined full l)
 
 -- ---- on a sound store what the definition hands out is the members
 
