@@ -3,13 +3,24 @@
 use core::error::Error;
 use core::fmt;
 
-/// Why a call was refused. The numbers are those of `include/fendruscla.h`; a refused call changes nothing that it was lent.
+/// Why a call was refused. Numbers and texts are those of `include/fendruscla.h`; a refused call changes nothing that it was lent.
+///
+/// ```
+/// use fendruscla::{words_for, Refusal, Store};
+///
+/// let mut words = [0; words_for(65)];
+/// let mut store = Store::open(&mut words, 65)?;
+/// let refusal = store.try_add(65).unwrap_err();
+/// assert_eq!(refusal, Refusal::NoRoom);
+/// assert_eq!(refusal.to_string(), "refusal 3: an id is at or past the capacity");
+/// # Ok::<(), Refusal>(())
+/// ```
 #[derive(Clone, Copy, Debug, PartialEq, Eq, Hash)]
 #[non_exhaustive]
 #[repr(u8)]
 pub enum Refusal {
     /// The capacity is 0 or above 16,777,216.
-    Capacity = 1,
+    NoCapacity = 1,
     /// The words are no store: their number and word 0 do not fit. Of a formula: its first store is none, or it names no store.
     NoStore = 2,
     /// An id is at or past the capacity.
@@ -25,28 +36,39 @@ pub enum Refusal {
     /// The buffer is shorter than the map.
     ShortBuffer = 8,
     /// The map's header is wrong, or the map is shorter than it says.
-    MapHeader = 9,
+    NoMap = 9,
     /// An entry of the map is wrong.
-    MapEntry = 10,
+    BadEntry = 10,
     /// The map's count of members is wrong.
-    MapCount = 11,
+    BadCount = 11,
     /// Every id below the capacity is a member.
-    Full = 12,
+    NoneFree = 12,
 }
 
 use Refusal::*;
 
 /// All refusals, in the order of their numbers.
 const ALL: [Refusal; 12] =
-    [Capacity, NoStore, NoRoom, NoLayer, Differ, NoFormula, NoCursor, ShortBuffer, MapHeader, MapEntry, MapCount, Full];
+    [NoCapacity, NoStore, NoRoom, NoLayer, Differ, NoFormula, NoCursor, ShortBuffer, NoMap, BadEntry, BadCount, NoneFree];
 
 impl Refusal {
     /// The refusal's number, from 1.
+    ///
+    /// ```
+    /// assert_eq!(fendruscla::Refusal::Differ.number(), 5);
+    /// ```
     pub const fn number(self) -> u8 {
         self as u8
     }
 
     /// The refusal that has this number.
+    ///
+    /// ```
+    /// use fendruscla::Refusal;
+    ///
+    /// assert_eq!(Refusal::from_number(12), Some(Refusal::NoneFree));
+    /// assert_eq!(Refusal::from_number(0), None);
+    /// ```
     pub fn from_number(number: u64) -> Option<Refusal> {
         ALL.into_iter().find(|refusal| u64::from(refusal.number()) == number)
     }
@@ -60,18 +82,18 @@ impl Refusal {
 
     const fn text(self) -> &'static str {
         match self {
-            Capacity => "the capacity is 0 or above 16777216",
+            NoCapacity => "the capacity is 0 or above 16777216",
             NoStore => "the words are no store",
             NoRoom => "an id is at or past the capacity",
             NoLayer => "the layer is above 3",
             Differ => "the capacities differ",
-            NoFormula => "no formula over at most four stores",
+            NoFormula => "no formula over the stores that are lent",
             NoCursor => "a prefix of the cursor is none",
             ShortBuffer => "the buffer is shorter than the map",
-            MapHeader => "the map's header is wrong or the map too short",
-            MapEntry => "an entry of the map is wrong",
-            MapCount => "the map's count of members is wrong",
-            Full => "no id is free",
+            NoMap => "the map's header is wrong or the map too short",
+            BadEntry => "an entry of the map is wrong",
+            BadCount => "the map's count of members is wrong",
+            NoneFree => "no id is free",
         }
     }
 }

@@ -1,124 +1,84 @@
-//! The walk: by budgets of word reads, and as an iterator.
+//! The walk as an iterator.
 
 use core::iter::FusedIterator;
+use core::ops::Range;
 
+use crate::cursor::{Batch, Cursor};
 use crate::error::{sure, Refusal};
-use crate::ffi::{self, Walk};
+use crate::level::Level;
 use crate::util::Index;
+use crate::words::MAX_CAPACITY;
 use crate::BitSetLike;
-
-/// Where a walk stands. A copy of it is a walk of its own. The set is lent to each call.
-#[derive(Clone, Copy, Debug, PartialEq, Eq)]
-pub struct Cursor {
-    words: Walk,
-}
-
-/// What the next step of a walk gives.
-#[derive(Clone, Copy, Debug, PartialEq, Eq)]
-pub enum Step {
-    /// A member.
-    Member(Index),
-    /// A read is needed and the budget is spent: the walk stands before that read.
-    Paused,
-    /// The walk is over.
-    End,
-}
-
-/// How many members were written, and why no more.
-#[derive(Clone, Copy, Debug, PartialEq, Eq)]
-pub enum Batch {
-    /// The places are full.
-    Full(usize),
-    /// The budget is spent.
-    Paused(usize),
-    /// The walk is over.
-    End(usize),
-}
-
-impl Batch {
-    /// How many members were written.
-    pub const fn count(self) -> usize {
-        match self {
-            Batch::Full(count) | Batch::Paused(count) | Batch::End(count) => count,
-        }
-    }
-}
-
-impl Cursor {
-    /// Stands before the first member, at the cost of one read. Refusals 2, 5, 6.
-    pub fn start(set: &(impl BitSetLike + ?Sized)) -> Result<Cursor, Refusal> {
-        let mut words = [0; 10];
-        set.formula().start(&mut words)?;
-        Ok(Cursor { words })
-    }
-
-    /// Stands where these masks and prefixes say, of layers 0 to 3 and 0 to 2. The calls refuse prefixes that are none.
-    pub fn from_parts(masks: [usize; 4], prefix: [u32; 3]) -> Cursor {
-        let [m0, m1, m2, m3] = masks.map(|mask| mask as u64);
-        let [p0, p1, p2] = prefix.map(u64::from);
-        Cursor { words: [m0, m1, m2, m3, 0, p0, p1, p2, 0, 0] }
-    }
-
-    /// The next member, with at most `budget` reads. Refusals 2, 5, 6, 7; a refused cursor stays as it is.
-    pub fn next(&mut self, set: &(impl BitSetLike + ?Sized), budget: u64) -> Result<Step, Refusal> {
-        let (which, value) = set.formula().next(&mut self.words, budget)?;
-        Ok(match which {
-            ffi::MEMBER => Step::Member(value as Index),
-            ffi::PAUSED => Step::Paused,
-            _ => Step::End,
-        })
-    }
-
-    /// The next members into the places, with at most `budget` reads. Refusals 2, 5, 6, 7; a refused cursor stays as it is.
-    pub fn fill(&mut self, set: &(impl BitSetLike + ?Sized), budget: u64, out: &mut [Index]) -> Result<Batch, Refusal> {
-        let (which, value) = set.formula().fill(&mut self.words, budget, out)?;
-        Ok(match which {
-            ffi::MEMBER => Batch::Full(value as usize),
-            ffi::PAUSED => Batch::Paused(value as usize),
-            _ => Batch::End(value as usize),
-        })
-    }
-
-    /// How many words the last call read; a word of a formula counts once.
-    pub const fn reads(&self) -> u64 {
-        self.words[9]
-    }
-}
 
 /// How many members are asked for at a time.
 const PLACES: usize = 64;
 
 /// The members of a set, rising.
+///
+/// ```
+/// use fendruscla::{BitIter, BitSet, BitSetLike};
+///
+/// let set = BitSet::from_iter([70, 3]);
+/// let mut members: BitIter<&BitSet> = (&set).iter();
+/// assert_eq!((members.next(), members.next(), members.next()), (Some(3), Some(70), None));
+/// ```
 #[derive(Clone, Debug)]
 pub struct BitIter<T> {
     set: T,
+    /// Copies of the set's stores, so that they have one capacity; made before the first members are asked for.
+    level: Option<Level>,
     cursor: Cursor,
     ids: [Index; PLACES],
     /// Of `ids`, those from `at` to `held` are still to be handed out.
     at: usize,
     held: usize,
+    /// Whether the archive's walk is over; then come the ids past all stores, where they are members.
     over: bool,
+    rest: Range<Index>,
 }
 
 impl<T> BitIter<T> {
     /// The members from where these masks and prefixes say. Usually `.iter()` on a set is what is wanted. Panics at its first step where a
     /// prefix is none.
+    ///
+    /// ```
+    /// use fendruscla::{BitIter, BitSet};
+    ///
+    /// let set = BitSet::from_iter([3, 70]);
+    /// assert!(BitIter::new(&set, [0, 0b10, 0, 0], [0, 0, 0]).eq([70]));
+    /// ```
     pub fn new(set: T, masks: [usize; 4], prefix: [u32; 3]) -> Self {
-        BitIter::at(set, Cursor::from_parts(masks, prefix))
+        BitIter::at(set, None, Cursor::from_parts(masks, prefix))
     }
 
-    fn at(set: T, cursor: Cursor) -> Self {
-        BitIter { set, cursor, ids: [0; PLACES], at: 0, held: 0, over: false }
+    fn at(set: T, level: Option<Level>, cursor: Cursor) -> Self {
+        BitIter { set, level, cursor, ids: [0; PLACES], at: 0, held: 0, over: false, rest: 0..0 }
     }
 }
 
 impl<T: BitSetLike> BitIter<T> {
     pub(crate) fn start(set: T) -> Result<Self, Refusal> {
-        let cursor = Cursor::start(&set)?;
-        Ok(BitIter::at(set, cursor))
+        let formula = set.formula();
+        let rest = formula.rest()?;
+        if !formula.is_fixed() && formula.stores().is_empty() {
+            let nowhere = Cursor::from_parts([0; 4], [0; 3]);
+            return Ok(BitIter { over: true, rest, ..BitIter::at(set, None, nowhere) });
+        }
+        let level = Level::of(&formula, formula.largest())?;
+        let cursor = Cursor::start(&level.over(formula))?;
+        Ok(BitIter { rest, ..BitIter::at(set, Some(level), cursor) })
     }
 
     /// Whether the id is a member of the set that is walked.
+    ///
+    /// ```
+    /// use fendruscla::{BitSet, BitSetLike};
+    ///
+    /// let set = BitSet::from_iter([3, 70]);
+    /// let mut members = set.iter();
+    /// members.next();
+    /// assert!(members.contains(3) && !members.contains(4));
+    /// ```
     pub fn contains(&self, i: Index) -> bool {
         self.set.contains(i)
     }
@@ -127,7 +87,13 @@ impl<T: BitSetLike> BitIter<T> {
     #[track_caller]
     fn refill(&mut self) {
         while self.at == self.held && !self.over {
-            let batch = sure(self.cursor.fill(&self.set, u64::MAX, &mut self.ids));
+            let formula = self.set.formula();
+            let level = self.level.get_or_insert_with(|| {
+                // from a place of the caller's choice every id may come, also past the stores
+                sure(Level::of(&formula, if formula.is_cut() { MAX_CAPACITY } else { formula.largest() }))
+            });
+            let said = level.over(formula).fill(&mut self.cursor.words, u64::MAX, &mut self.ids);
+            let batch = Batch::said(sure(said));
             self.over = matches!(batch, Batch::End(_));
             (self.at, self.held) = (0, batch.count());
         }
@@ -142,13 +108,17 @@ impl<T: BitSetLike> Iterator for BitIter<T> {
         if self.at == self.held {
             self.refill();
         }
-        let id = *self.ids[..self.held].get(self.at)?;
-        self.at += 1;
-        Some(id)
+        match self.ids[..self.held].get(self.at) {
+            Some(&id) => {
+                self.at += 1;
+                Some(id)
+            }
+            None => self.rest.next(),
+        }
     }
 
     fn size_hint(&self) -> (usize, Option<usize>) {
-        let left = self.held - self.at;
+        let left = self.held - self.at + self.rest.len();
         (left, self.over.then_some(left))
     }
 }

@@ -1,25 +1,18 @@
 //! Sets made of others, and the operators that make them.
 
-use core::ops::{BitAnd, BitAndAssign, BitOr, BitOrAssign, BitXor, BitXorAssign, Not};
+use core::ops::{BitAnd, BitOr, BitXor, Not};
 
-use crate::error::{sure, Refusal};
-use crate::ffi;
 use crate::formula::Formula;
 use crate::iter::BitIter;
 use crate::set::Set;
 use crate::util::Index;
+use crate::words::Words;
 use crate::BitSetLike;
-
-const AND: u8 = 16;
-const OR: u8 = 17;
-const XOR: u8 = 18;
-const NOT: u8 = 19;
-const ALL: u8 = 20;
 
 /// A set of two sets.
 macro_rules! pair {
-    ($name:ident, $code:ident, $what:literal) => {
-        #[doc = $what]
+    ($(#[$about:meta])* $name:ident, $code:ident) => {
+        $(#[$about])*
         #[derive(Clone, Copy, Debug)]
         pub struct $name<A, B>(pub A, pub B);
 
@@ -28,17 +21,59 @@ macro_rules! pair {
             fn put_into<'a>(&'a self, formula: &mut Formula<'a>) {
                 self.0.put_into(formula);
                 self.1.put_into(formula);
-                formula.code($code);
+                formula.code(Formula::$code);
             }
         }
     };
 }
 
-pair!(BitSetAnd, AND, "The ids that both sets hold.");
-pair!(BitSetOr, OR, "The ids that one of two sets holds, or both.");
-pair!(BitSetXor, XOR, "The ids that exactly one of two sets holds.");
+pair! {
+    /// The ids that both sets hold.
+    ///
+    /// ```
+    /// use fendruscla::{BitSet, BitSetAnd, BitSetLike};
+    ///
+    /// let (a, b) = (BitSet::from_iter([1, 2]), BitSet::from_iter([2, 900]));
+    /// assert!(BitSetAnd(&a, &b).iter().eq([2]) && (&a & &b).iter().eq([2]));
+    /// ```
+    BitSetAnd, AND
+}
 
-/// The ids below the capacity that the set does not hold.
+pair! {
+    /// The ids that one of two sets holds, or both.
+    ///
+    /// ```
+    /// use fendruscla::{BitSet, BitSetLike, BitSetOr};
+    ///
+    /// let (a, b) = (BitSet::from_iter([1, 2]), BitSet::from_iter([2, 900]));
+    /// assert!(BitSetOr(&a, &b).iter().eq([1, 2, 900]) && (&a | &b).iter().eq([1, 2, 900]));
+    /// ```
+    BitSetOr, OR
+}
+
+pair! {
+    /// The ids that exactly one of two sets holds.
+    ///
+    /// ```
+    /// use fendruscla::{BitSet, BitSetLike, BitSetXor};
+    ///
+    /// let (a, b) = (BitSet::from_iter([1, 2]), BitSet::from_iter([2, 900]));
+    /// assert!(BitSetXor(&a, &b).iter().eq([1, 900]) && (&a ^ &b).iter().eq([1, 900]));
+    /// ```
+    BitSetXor, XOR
+}
+
+/// The ids that the set does not hold: below 16,777,216 of a set that grows, below the capacity of one that is lent.
+///
+/// ```
+/// use fendruscla::{BitSet, BitSetLike, BitSetNot, Set};
+///
+/// let set = BitSet::from_iter([0, 2]);
+/// assert!(BitSetNot(&set).iter().take(3).eq([1, 3, 4]) && (!&set).contains(16_777_215));
+/// let four = Set::open([0; 5], 4)?;
+/// assert!((!&four).iter().eq([0, 1, 2, 3]) && !(!&four).contains(4));
+/// # Ok::<(), fendruscla::Refusal>(())
+/// ```
 #[derive(Clone, Copy, Debug)]
 pub struct BitSetNot<A>(pub A);
 
@@ -46,18 +81,30 @@ impl<A: BitSetLike> BitSetLike for BitSetNot<A> {
     #[inline]
     fn put_into<'a>(&'a self, formula: &mut Formula<'a>) {
         self.0.put_into(formula);
-        formula.code(NOT);
+        formula.code(Formula::NOT);
     }
 }
 
-/// Every id below the capacity of the stores that it is joined with; alone it has no capacity and is refusal 2.
+/// Every id: below 16,777,216, or below the capacity of the lent stores that it is joined with.
+///
+/// A [`Cursor`](crate::Cursor) walks stores, and an operation in place over a lent store takes them: for both, all alone is refusal 2.
+///
+/// ```
+/// use fendruscla::{BitSetAll, BitSetLike, Set};
+///
+/// assert!(BitSetAll.contains(3) && BitSetAll.contains(16_777_215));
+/// assert!(BitSetAll.iter().take(2).eq([0, 1]));
+/// let four = Set::open([0; 5], 4)?;
+/// assert!((&four | BitSetAll).iter().eq([0, 1, 2, 3]));
+/// # Ok::<(), fendruscla::Refusal>(())
+/// ```
 #[derive(Clone, Copy, Debug)]
 pub struct BitSetAll;
 
 impl BitSetLike for BitSetAll {
     #[inline]
     fn put_into<'a>(&'a self, formula: &mut Formula<'a>) {
-        formula.code(ALL);
+        formula.code(Formula::ALL);
     }
 }
 
@@ -106,8 +153,8 @@ macro_rules! joins {
 }
 
 operators! {
-    [W: AsRef<[u64]>,] Set<W>;
-    ['s, W: AsRef<[u64]>,] &'s Set<W>;
+    [W: Words,] Set<W>;
+    ['s, W: Words,] &'s Set<W>;
     [A: BitSetLike, B: BitSetLike,] BitSetAnd<A, B>;
     ['s, A: BitSetLike, B: BitSetLike,] &'s BitSetAnd<A, B>;
     [A: BitSetLike, B: BitSetLike,] BitSetOr<A, B>;
@@ -120,35 +167,4 @@ operators! {
     ['s,] &'s BitSetAll;
     ['f,] Formula<'f>;
     ['s, 'f,] &'s Formula<'f>;
-}
-
-/// An operation in place, with the call that answers its refusals.
-macro_rules! in_place {
-    ($($operator:ident $call:ident $tried:ident $what:literal;)*) => {$(
-        impl<W: AsMut<[u64]>> Set<W> {
-            #[doc = $what]
-            /// A set made of others is made a store of its own first. Refusals 2, 5, 6.
-            pub fn $tried(&mut self, other: &(impl BitSetLike + ?Sized)) -> Result<(), Refusal> {
-                let formula = other.formula();
-                match formula.single() {
-                    Some(store) => ffi::$call(self.words.as_mut(), store)?,
-                    None => ffi::$call(self.words.as_mut(), formula.to_set()?.as_words())?,
-                };
-                Ok(())
-            }
-        }
-
-        impl<W: AsMut<[u64]>, B: BitSetLike + ?Sized> $operator<&B> for Set<W> {
-            #[track_caller]
-            fn $call(&mut self, other: &B) {
-                sure(self.$tried(other));
-            }
-        }
-    )*};
-}
-
-in_place! {
-    BitOrAssign bitor_assign try_bitor_assign "Becomes the union with the other set.";
-    BitAndAssign bitand_assign try_bitand_assign "Becomes the intersection with the other set.";
-    BitXorAssign bitxor_assign try_bitxor_assign "Becomes the symmetric difference with the other set.";
 }

@@ -1,64 +1,13 @@
-//! Formulas at random, and operations in place, against sets of plain Rust.
+//! Formulas over stores of one capacity at random, and operations in place, against sets of plain Rust. tests/grown.rs has those of sets that
+//! grow.
 
 mod common;
 
 use std::collections::BTreeSet;
 
+use common::made::{made, Leaves, Made};
 use common::{members, set_of, Dice, CAPACITIES};
-use fendruscla::{BitSet, BitSetAll, BitSetAnd, BitSetLike, BitSetNot, BitSetOr, BitSetXor, Formula, Refusal};
-
-/// A formula, its members, and what it takes: codes, values that wait at once, stores.
-struct Made<'a> {
-    set: Box<dyn BitSetLike + 'a>,
-    members: BTreeSet<u32>,
-    codes: usize,
-    waiting: usize,
-    stores: BTreeSet<usize>,
-}
-
-fn leaf<'a>(dice: &mut Dice, n: u32, sets: &'a [BitSet], models: &[BTreeSet<u32>]) -> Made<'a> {
-    let k = dice.roll(sets.len() as u32 + 1) as usize;
-    let (set, members, stores): (Box<dyn BitSetLike>, _, _) = match sets.get(k) {
-        Some(set) => (Box::new(set), models[k].clone(), BTreeSet::from([k])),
-        None => (Box::new(BitSetAll), (0..n).collect(), BTreeSet::new()),
-    };
-    Made { set, members, codes: 1, waiting: 1, stores }
-}
-
-fn inverted(a: Made<'_>, n: u32) -> Made<'_> {
-    let members = (0..n).filter(|id| !a.members.contains(id)).collect();
-    Made { set: Box::new(BitSetNot(a.set)), members, codes: a.codes + 1, ..a }
-}
-
-fn joined<'a>(dice: &mut Dice, a: Made<'a>, b: Made<'a>) -> Made<'a> {
-    let (set, members): (Box<dyn BitSetLike>, _) = match dice.roll(3) {
-        0 => (Box::new(BitSetAnd(a.set, b.set)), &a.members & &b.members),
-        1 => (Box::new(BitSetOr(a.set, b.set)), &a.members | &b.members),
-        _ => (Box::new(BitSetXor(a.set, b.set)), &a.members ^ &b.members),
-    };
-    let waiting = a.waiting.max(1 + b.waiting);
-    Made { set, members, codes: a.codes + b.codes + 1, waiting, stores: &a.stores | &b.stores }
-}
-
-fn made<'a>(dice: &mut Dice, n: u32, depth: u32, sets: &'a [BitSet], models: &[BTreeSet<u32>]) -> Made<'a> {
-    if depth == 0 || dice.roll(5) == 0 {
-        return leaf(dice, n, sets, models);
-    }
-    let a = made(dice, n, depth - 1, sets, models);
-    if dice.roll(4) == 0 {
-        return inverted(a, n);
-    }
-    let b = made(dice, n, depth - 1, sets, models);
-    joined(dice, a, b)
-}
-
-/// The refusal that a formula must have, if any: no store is lent, or more is asked than a formula can hold.
-fn judged(made: &Made) -> Option<Refusal> {
-    if made.stores.is_empty() {
-        return Some(Refusal::NoStore);
-    }
-    (made.codes > 32 || made.waiting > 8 || made.stores.len() > 4).then_some(Refusal::NoFormula)
-}
+use fendruscla::{BitSetAll, BitSetLike, Formula, Refusal, Set, View};
 
 fn compare(made: &Made, n: u32) {
     let formula = made.set.formula();
@@ -80,20 +29,27 @@ fn compare(made: &Made, n: u32) {
 fn formulas_are_what_the_model_is() {
     let mut dice = Dice(3);
     let (mut taken, mut refused) = (0, 0);
-    for round in 0..600 {
-        let n = [1, 64, 65, 300, 4_097][round % 5];
-        let models: Vec<_> = (0..5).map(|_| dice.ids(n, n.min(400))).collect();
-        let sets: Vec<_> = models.iter().map(|ids| set_of(n, ids)).collect();
-        let lent = 1 + dice.roll(5) as usize;
+    for round in 0..900 {
+        let below = [1, 64, 65, 300, 4_097][round % 5];
+        let models: Vec<_> = (0..1 + dice.roll(5)).map(|_| dice.ids(below, below.min(400))).collect();
+        let sets: Vec<_> = models.iter().map(|ids| set_of(below, ids)).collect();
+        let views: Vec<_> = sets.iter().map(|set| View::over(set.as_words()).unwrap()).collect();
+        let leaves = Leaves { sets: views.iter().map(|view| view as &dyn BitSetLike).collect(), models, below };
         let depth = 1 + dice.roll(5);
-        let made = made(&mut dice, n, depth, &sets[..lent], &models);
-        match judged(&made) {
-            None => compare(&made, n),
-            Some(refusal) => assert_eq!(made.set.formula().contains(0), Err(refusal)),
+        let made = made(&mut dice, depth, &leaves);
+        // of all alone no store says the capacity
+        if made.stores.is_empty() {
+            continue;
         }
-        *if judged(&made).is_none() { &mut taken } else { &mut refused } += 1;
+        if made.fits() {
+            compare(&made, below);
+            taken += 1;
+        } else {
+            assert_eq!(made.set.formula().contains(0), Err(Refusal::NoFormula));
+            refused += 1;
+        }
     }
-    assert!(taken > 300 && refused > 30, "{taken} {refused}");
+    assert!(taken > 300 && refused > 20, "{taken} {refused}");
 }
 
 #[test]
@@ -118,12 +74,11 @@ fn in_place_is_what_the_model_is() {
 
 #[test]
 fn not_and_all_stop_at_the_capacity() {
-    let set = BitSet::with_capacity(65);
-    assert_eq!((!&set).iter().count(), 65);
-    assert_eq!((&set | BitSetAll).iter().count(), 65);
-    assert!(!(!&set).contains(65));
-    assert_eq!(((!&set).layer0(1), (!&set).layer1(0), (!&set).layer3()), (1, 3, 1));
-    assert_eq!((!BitSet::new()).iter().count(), 16_777_216);
+    let set = Set::open([0; 6], 65).unwrap();
+    assert_eq!((!set).iter().count(), 65);
+    assert_eq!((set | BitSetAll).iter().count(), 65);
+    assert!(!(!set).contains(65));
+    assert_eq!(((!set).layer0(1), (!set).layer1(0), (!set).layer3()), (1, 3, 1));
 }
 
 #[test]

@@ -5,7 +5,7 @@ mod common;
 use std::collections::BTreeSet;
 
 use common::{set_of, Dice, CAPACITIES};
-use fendruscla::{BitSet, Set, Store};
+use fendruscla::{map_capacity, BitSet, Refusal, Set, Store};
 
 #[test]
 fn the_bytes_of_a_map() {
@@ -29,11 +29,33 @@ fn what_is_written_is_read_back() {
         let map = set.to_map();
         let words = ids.iter().map(|id| id / 64).collect::<BTreeSet<_>>().len();
         assert_eq!(map.len(), 16 + 12 * words);
+        assert_eq!(set.map_len(), map.len());
+        assert_eq!(map_capacity(&map), Ok(n));
 
         let mut other = set_of(n, &dice.ids(n, 500));
         assert_eq!(other.read_map(&map), Ok(()));
         assert_eq!(other, set);
-        assert_eq!(BitSet::from_map(&map), Ok(set));
+        let read = BitSet::from_map(&map).unwrap();
+        assert_eq!((read.capacity(), &read), (n, &set));
+    }
+}
+
+#[test]
+fn the_capacity_of_no_map_is_refused() {
+    let map = set_of(65, &BTreeSet::from([0, 64])).to_map();
+    for short in 0..40 {
+        assert_eq!(map_capacity(&map[..short]), Err(Refusal::NoMap));
+    }
+    for (at, byte) in [(12, 17), (8, 3), (3, 255), (0, 0)] {
+        let mut wrong = map.clone();
+        wrong[at] = byte;
+        assert_eq!(map_capacity(&wrong), Err(Refusal::NoMap));
+    }
+    // what is wrong in an entry or in the count is for the reader to find
+    for (at, byte) in [(28, 0), (4, 3)] {
+        let mut wrong = map.clone();
+        wrong[at] = byte;
+        assert_eq!(map_capacity(&wrong), Ok(65));
     }
 }
 
@@ -43,7 +65,7 @@ fn a_map_into_a_lent_store() {
     let mut words = BitSet::with_capacity(4_097).into_words();
     let mut store = Store::over(&mut words).unwrap();
     assert_eq!(store.read_map(&set.to_map()), Ok(()));
-    assert_eq!(store, set);
+    assert_eq!(store.try_equal(&set), Ok(true));
     assert!(store.is_sound());
 }
 
@@ -54,4 +76,5 @@ fn bits_past_the_capacity_are_not_written() {
     let set = Set::over(words).unwrap();
     assert!(!set.is_sound());
     assert_eq!(set.to_map(), set_of(65, &BTreeSet::from([0])).to_map());
+    assert_eq!(set.map_len(), 28);
 }

@@ -6,11 +6,16 @@ use std::collections::BTreeSet;
 use std::error::Error;
 
 use common::set_of;
-use fendruscla::{words_for, BitSet, BitSetAll, BitSetLike, BitSetNot, BitSetOr, Cursor, Formula, Refusal, Store, View};
+use fendruscla::{words_for, BitSet, BitSetAll, BitSetLike, BitSetNot, BitSetOr, Cursor, Refusal, Set, Store, View};
 
 /// A set of capacity 65 that holds 0 and 64.
 fn two() -> BitSet {
     set_of(65, &BTreeSet::from([0, 64]))
+}
+
+/// The same, fixed.
+fn fixed() -> Set<[u64; 6]> {
+    Set::over(two().into_words().try_into().unwrap()).unwrap()
 }
 
 fn boxed<'a>(set: impl BitSetLike + 'a) -> Box<dyn BitSetLike + 'a> {
@@ -26,15 +31,15 @@ fn numbers_and_texts() {
     }
     assert_eq!(Refusal::from_number(0), None);
     assert_eq!(Refusal::from_number(13), None);
-    let error: Box<dyn Error> = Refusal::Full.into();
+    let error: Box<dyn Error> = Refusal::NoneFree.into();
     assert_eq!(error.to_string(), "refusal 12: no id is free");
 }
 
 #[test]
 fn refusals_1_and_2_of_a_store() {
     for n in [0, 16_777_217, u32::MAX] {
-        assert_eq!(BitSet::try_with_capacity(n).unwrap_err().number(), 1);
         assert_eq!(Store::open(&mut [], n).unwrap_err().number(), 1);
+        assert_eq!(BitSet::try_with_capacity(n).err(), (n > 0).then_some(Refusal::NoCapacity));
     }
     let mut words = [7; words_for(65) + 1];
     assert_eq!(Store::open(&mut words, 65).unwrap_err().number(), 2);
@@ -46,14 +51,21 @@ fn refusals_1_and_2_of_a_store() {
 
 #[test]
 fn refusal_3_of_an_id() {
-    let mut set = two();
+    let mut set = fixed();
     for id in [65, 127, 128, u32::MAX] {
         assert_eq!(set.try_add(id).unwrap_err().number(), 3);
         assert_eq!(set.add_list(&[1, id]).unwrap_err().number(), 3);
         assert!(!set.contains(id) && !set.remove(id));
     }
-    assert_eq!(set, two());
+    assert_eq!(set, fixed());
     assert_eq!(set.try_add(64), Ok(true));
+
+    let mut grows = two();
+    for id in [16_777_216, u32::MAX] {
+        assert_eq!(grows.try_add(id).unwrap_err().number(), 3);
+        assert_eq!(grows.add_list(&[1, id]).unwrap_err().number(), 3);
+    }
+    assert_eq!(grows.as_words(), two().as_words());
 }
 
 #[test]
@@ -65,15 +77,19 @@ fn refusal_4_of_a_layer() {
 
 #[test]
 fn refusal_5_of_capacities() {
-    let (mut a, b) = (two(), BitSet::with_capacity(64));
+    let (mut a, b) = (fixed(), BitSet::with_capacity(64));
     assert_eq!(a.try_bitor_assign(&b).unwrap_err().number(), 5);
     assert_eq!(a.try_bitand_assign(&b).unwrap_err().number(), 5);
     assert_eq!(a.try_bitxor_assign(&b).unwrap_err().number(), 5);
     assert_eq!(a.try_bitand_assign(&!&b).unwrap_err().number(), 5);
     assert_eq!(a.try_contains_set(&b).unwrap_err().number(), 5);
     assert_eq!(a.read_map(&b.to_map()).unwrap_err().number(), 5);
-    assert_eq!((&a | &b).try_iter().unwrap_err().number(), 5);
-    assert_eq!(a, two());
+    assert_eq!((a | &b).try_iter().unwrap_err().number(), 5);
+    assert_eq!((&b & !&a).formula().contains(0).unwrap_err().number(), 5);
+    assert_eq!(b.try_contains_set(&a).unwrap_err().number(), 5);
+    assert_eq!(a, fixed());
+    assert_ne!(View::over(BitSet::with_capacity(64).as_words()), View::over(BitSet::with_capacity(65).as_words()));
+    assert_eq!(two().read_map(&b.to_map()).unwrap_err().number(), 5);
 }
 
 #[test]
@@ -92,19 +108,9 @@ fn refusals_2_and_6_of_a_formula() {
         assert_eq!(refused.formula().contains(0).unwrap_err().number(), 6);
         assert_eq!(refused.try_iter().err(), Some(Refusal::NoFormula));
     }
-    assert_eq!(BitSetAll.try_iter().unwrap_err().number(), 2);
-}
-
-#[test]
-fn refusals_2_and_6_of_codes() {
-    let set = two();
-    let over = |codes: &[u8]| Formula::from_codes(codes, [set.as_words(), &[], &[], &[]]).contains(0);
-    assert_eq!(over(&[0, 20, 16]), Ok(true));
-    for wrong in [&[][..], &[0, 0], &[16], &[0, 16], &[1], &[4], &[21], &[255], &[0; 9]] {
-        assert_eq!(over(wrong).unwrap_err().number(), 6);
-    }
-    let lent_but_none = Formula::from_codes(&[0], [set.as_words(), &[1], &[], &[]]);
-    assert_eq!(lent_but_none.contains(0).unwrap_err().number(), 2);
+    // all alone has no store
+    assert_eq!(Cursor::start(&BitSetAll).unwrap_err().number(), 2);
+    assert_eq!(fixed().try_bitor_assign(&BitSetAll).unwrap_err().number(), 2);
 }
 
 #[test]
@@ -148,9 +154,9 @@ fn refusals_8_to_11_of_a_map() {
 
 #[test]
 fn refusal_12_of_a_full_set() {
-    let mut set = BitSet::with_capacity(4);
+    let mut set = Set::open([0; 5], 4).unwrap();
     assert_eq!(set.add_list(&[0, 1, 3]), Ok(()));
     assert_eq!(set.first_free(), Ok(2));
     set.add(2);
-    assert_eq!(set.first_free(), Err(Refusal::Full));
+    assert_eq!(set.first_free(), Err(Refusal::NoneFree));
 }

@@ -23,7 +23,8 @@ fn a_set_is_what_the_model_is() {
         assert!(set.is_sound());
         assert_eq!(set.is_empty(), model.is_empty());
         assert!((&set).iter().eq(model.iter().copied()));
-        assert_eq!(set.first_free().ok(), (0..n).find(|id| !model.contains(id)));
+        assert_eq!(set.first_free().ok(), (0..=n).find(|id| !model.contains(id)));
+        assert_eq!(set.capacity(), n);
     }
 }
 
@@ -57,7 +58,7 @@ fn an_owned_set_is_an_opened_store() {
     for n in CAPACITIES {
         let mut words = vec![!0; words_for(n)];
         let opened = Store::open(&mut words, n).unwrap();
-        assert_eq!(opened, BitSet::with_capacity(n));
+        assert_eq!(opened.as_words(), BitSet::with_capacity(n).as_words());
         assert!(opened.is_sound());
     }
 }
@@ -83,12 +84,12 @@ fn a_lent_store_goes_from_hand_to_hand() {
 
 #[test]
 fn a_list_is_added_whole_or_not() {
-    let mut set = BitSet::with_capacity(65);
+    let mut set = Set::open([0; 6], 65).unwrap();
     assert_eq!(set.add_list(&[3, 65, 4]), Err(Refusal::NoRoom));
     assert!(set.is_empty());
     assert_eq!(set.add_list(&[]), Ok(()));
     assert_eq!(set.add_list(&[64, 3, 64]), Ok(()));
-    assert_eq!(members(&set), [3, 64]);
+    assert_eq!(members(set), [3, 64]);
 }
 
 #[test]
@@ -99,7 +100,6 @@ fn equal_shown_and_copied() {
     assert_eq!(set, copy);
     set.remove(64);
     assert_ne!(set, copy);
-    assert_ne!(BitSet::with_capacity(64), BitSet::with_capacity(65));
     assert!(copy.contains_set(&set) && !set.contains_set(&copy));
 }
 

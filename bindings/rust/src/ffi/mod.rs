@@ -1,7 +1,7 @@
 //! The archive's calls, each behind a safe function. All `unsafe` of the crate is in this module.
 //!
 //! Why the calls are sound, for all of them: a slice is lent as its pointer and its length, and the pointer of an empty slice dangles but is
-//! aligned and not null, which is what the header asks. What a call writes to is lent by `&mut` and so overlaps nothing else that it is
+//! aligned, which is all that the header asks of it. What a call writes to is lent by `&mut` and so overlaps nothing else that it is
 //! lent. Numbers have no forbidden values. The calls are proved to end, to touch only what they are lent and to keep no pointer.
 #![allow(unsafe_code)]
 
@@ -21,6 +21,7 @@ pub type Said = Result<(u64, u64), Refusal>;
 /// `Said`'s first number, as in the header.
 pub const MEMBER: u64 = 1;
 pub const PAUSED: u64 = 2;
+pub const FULL: u64 = 4;
 
 fn refusal(number: u64) -> Refusal {
     Refusal::from_number(number).expect("the archive's refusals are those of the header")
@@ -101,6 +102,7 @@ asks! {
     first_free = fen_first_free();
     get_from_layer = fen_get_from_layer(layer: usize, index: usize);
     is_sound = fen_is_sound();
+    map_length = fen_map_length();
 }
 
 changes! {
@@ -154,14 +156,32 @@ pub fn fill(store: &[u64], walk: &mut Walk, budget: u64, out: &mut [u32]) -> Sai
     stepped(unsafe { raw::fen_fill(store.as_ptr(), store.len(), walk, budget, out.as_mut_ptr(), out.len()) })
 }
 
-pub fn write(store: &[u64], buf: &mut [u8]) -> Result<u64, Refusal> {
-    // SAFETY: both slices are lent whole; the second is lent by `&mut`, so they do not overlap.
-    answered(unsafe { raw::fen_write(store.as_ptr(), store.len(), buf.as_mut_ptr(), buf.len()) })
+pub fn version() -> u64 {
+    // SAFETY: nothing is lent.
+    unsafe { raw::fen_version() }
 }
 
-pub fn read(map: &[u8], store: &mut [u64]) -> Result<u64, Refusal> {
+/// Layer 0, to be written to.
+#[cfg(feature = "alloc")]
+pub fn layer0_mut(store: &mut [u64]) -> &mut [u64] {
+    // SAFETY: the slice is lent whole, to be read.
+    let part = unsafe { raw::fen_layer0(store.as_ptr(), store.len()) };
+    &mut store[part.start as usize..][..part.length as usize]
+}
+
+pub fn map_write(store: &[u64], buf: &mut [u8]) -> Result<u64, Refusal> {
     // SAFETY: both slices are lent whole; the second is lent by `&mut`, so they do not overlap.
-    answered(unsafe { raw::fen_read(map.as_ptr(), map.len(), store.as_mut_ptr(), store.len()) })
+    answered(unsafe { raw::fen_map_write(store.as_ptr(), store.len(), buf.as_mut_ptr(), buf.len()) })
+}
+
+pub fn map_read(map: &[u8], store: &mut [u64]) -> Result<u64, Refusal> {
+    // SAFETY: both slices are lent whole; the second is lent by `&mut`, so they do not overlap.
+    answered(unsafe { raw::fen_map_read(map.as_ptr(), map.len(), store.as_mut_ptr(), store.len()) })
+}
+
+pub fn map_capacity(map: &[u8]) -> Result<u64, Refusal> {
+    // SAFETY: the slice is lent whole, to be read.
+    answered(unsafe { raw::fen_map_capacity(map.as_ptr(), map.len()) })
 }
 
 /// Words as `usize`, which the old crate's words are.

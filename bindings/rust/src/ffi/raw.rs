@@ -27,6 +27,8 @@ pub struct Half {
 }
 
 extern "C" {
+    pub fn fen_version() -> u64;
+
     pub fn fen_open(store: *mut u64, len: usize, n: u32) -> Answer;
     pub fn fen_clear(store: *mut u64, len: usize) -> Answer;
     pub fn fen_is_empty(store: *const u64, len: usize) -> Answer;
@@ -53,6 +55,8 @@ extern "C" {
     pub fn fen_bitand_assign(store: *mut u64, len: usize, other: *const u64, other_len: usize) -> Answer;
     pub fn fen_bitxor_assign(store: *mut u64, len: usize, other: *const u64, other_len: usize) -> Answer;
 
-    pub fn fen_write(store: *const u64, len: usize, buf: *mut u8, room: usize) -> Answer;
-    pub fn fen_read(map: *const u8, length: usize, store: *mut u64, len: usize) -> Answer;
+    pub fn fen_map_write(store: *const u64, len: usize, buf: *mut u8, room: usize) -> Answer;
+    pub fn fen_map_length(store: *const u64, len: usize) -> Answer;
+    pub fn fen_map_read(map: *const u8, length: usize, store: *mut u64, len: usize) -> Answer;
+    pub fn fen_map_capacity(map: *const u8, length: usize) -> Answer;
 }

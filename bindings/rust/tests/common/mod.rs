@@ -1,6 +1,8 @@
 //! Sets at random, and what a set is in plain Rust.
 #![allow(dead_code)]
 
+pub mod made;
+
 use std::collections::BTreeSet;
 
 use fendruscla::BitSet;
