@@ -53,7 +53,8 @@ module _ {P : ℕ → List ℕ → Type 0} (k : Inherited P) where
       go false a b c e = e .0
 
   -- every call hands it on
-  calls-leave : (c : Call) (r : Answered (promiseOf c)) (y : Memory (promiseOf c)) → Meets (promiseOf c) r y → Each P (lentTo c) → Each P (leftBy c y)
+  calls-leave : (c : Call) (r : Answered (promiseOf c)) (y : Memory (promiseOf c)) → Meets (promiseOf c) r y
+      → Each P (lentTo c) → Each P (leftBy c y)
   calls-leave («open» s n) r y m e = open-left s n (m .memory) e
   calls-leave (add s i) r y m e = one-left (m .memory) (e .0) (adds i)
   calls-leave (remove s i) r y m e = one-left (m .memory) (e .0) (removes i)
@@ -91,9 +92,11 @@ module _ {P : ℕ → List ℕ → Type 0} (k : Inherited P) where
 
 -- "stores of one capacity reached from opening by our calls on such stores": WHATEVER A CALL LEAVES of reached stores is reached, whether
 -- it went through or refused
-pub reached-closed : (c : Call) (r : Answered (promiseOf c)) (y : Memory (promiseOf c)) → Meets (promiseOf c) r y → Each Reached (lentTo c) → Each Reached (leftBy c y)
+pub reached-closed : (c : Call) (r : Answered (promiseOf c)) (y : Memory (promiseOf c)) → Meets (promiseOf c) r y
+    → Each Reached (lentTo c) → Each Reached (leftBy c y)
 reached-closed = calls-leave (record { opened-has = opened; handed-on = after; is-sound = reached-fine })
 
 -- "ALL CALLS KEEP SOUNDNESS where every store lent to them is sound."
-pub sound-closed : (c : Call) (r : Answered (promiseOf c)) (y : Memory (promiseOf c)) → Meets (promiseOf c) r y → Each SoundStore (lentTo c) → Each SoundStore (leftBy c y)
+pub sound-closed : (c : Call) (r : Answered (promiseOf c)) (y : Memory (promiseOf c)) → Meets (promiseOf c) r y
+    → Each SoundStore (lentTo c) → Each SoundStore (leftBy c y)
 sound-closed = calls-leave (record { opened-has = fine-open; handed-on = fine-one; is-sound = λ f. f })

@@ -2,7 +2,7 @@
 use mathlib.Core.Bool.{true}
 use mathlib.Core.List.{List}
 use mathlib.Core.Path.{_≡_, sym, subst}
-use Prim.Native.Nat.{ℕ, suc, _+_, _*_, _≤_}
+use Prim.Native.Nat.{ℕ, _+_, _≤_}
 use lib.ListN.{length}
 use Rattle.store.specs.Layout.{top, cap}
 use Rattle.store.specs.Word.{word, members, memberCount}
@@ -14,7 +14,7 @@ use Rattle.walk.specs.declared.Next.the-variants.{Paused}
 use Rattle.walk.proofs.Answers.{started-is}
 use Rattle.walk_laws.specs.Calls.{Ask, Some, AllStopped}
 use Rattle.walk_laws.specs.Under.{allReads}
-use Rattle.walk_laws.specs.Walks.{Spaced, SpacedAs, nextOn, fillOn, callOn, walkOn, Walked}
+use Rattle.walk_laws.specs.Walks.{Spaced, SpacedAs, FewReads, nextOn, fillOn, callOn, walkOn, Walked}
 use Rattle.walk_laws.proofs.Bounds.{spaced-reads}
 use Rattle.walk_laws.proofs.Store.{store-members, store-ends, store-keeps, store-gaps, store-fill-gaps}
 use Rattle.walk_reader.specs.Readers.{readerRun}
@@ -49,17 +49,17 @@ module _ {N : ℕ} {s : List ℕ} (r : Reached N s) where
   one-gaps k bs = subst (λ (n : ℕ). Spaced (top n) (nextOn s) bs (startIn s k .cursor) 0) named (store-gaps (reached-fine r) k bs)
 
   pub one-fill-gaps : (k : Cursor) (q : List Ask) → SpacedAs (top N) (nextOn s) (fillOn s) q (startIn s k .cursor)
-  one-fill-gaps k q = subst (λ (n : ℕ). SpacedAs (top n) (nextOn s) (fillOn s) q (startIn s k .cursor)) named (store-fill-gaps (reached-fine r) k q)
+  one-fill-gaps k q =
+      subst (λ (n : ℕ). SpacedAs (top n) (nextOn s) (fillOn s) q (startIn s k .cursor)) named (store-fill-gaps (reached-fine r) k q)
 
-  -- so they have read at most three words for each member handed out and three more, and by the end three for each of the members
-  pub one-reads : (k : Cursor) (q : List Ask) → (walkOn s k q .total ≤ top N * suc (length (walkOn s k q .members))) × (walkOn s k q .over ≡ true → walkOn s k q .total ≤ top N * memberCount s)
-  one-reads k q =
-      let h = spaced-reads (one-fill-gaps k q) in
-      (h .0, λ e. subst (λ (l : List ℕ). walkOn s k q .total ≤ top N * length l) (one-members k q e .members-all) (h .1 e))
+  -- so in all they read at most three words for each member handed out and three more, and where they ended none more
+  pub one-reads : (k : Cursor) (q : List Ask) → FewReads (top N) (walkOn s k q)
+  one-reads k q = spaced-reads (one-fill-gaps k q)
 
   -- A READER'S walk that ends has told exactly the members, and one read less than the definition counts: the top word, read when the
   -- reader is made, is not told
-  pub reader-told : (bs : List ℕ) → readerRun s bs .over ≡ true → (readerRun s bs .members ≡ members s) × (1 + readerRun s bs .total ≡ allReads (word N s) (top N))
+  pub reader-told : (bs : List ℕ) → readerRun s bs .over ≡ true
+      → (readerRun s bs .members ≡ members s) × (1 + readerRun s bs .total ≡ allReads (word N s) (top N))
   reader-told bs e =
       let f = reached-fine r in (
         reader-members s bs f e,

@@ -2,7 +2,7 @@
 use mathlib.Core.Bool.{true}
 use mathlib.Core.List.{List, [], _∷_, _++_}
 use mathlib.Core.Path.{_≡_, sym, subst}
-use Prim.Native.Nat.{ℕ, suc, _+_, _*_, _^_, _≤_, _<_}
+use Prim.Native.Nat.{ℕ, _+_, _^_, _≤_, _<_}
 use native.Mathlib.Decide.{ℕ-discrete}
 use native.Mathlib.Omega.{arith}
 use lib.ListN.{length, List·getD-eq-default}
@@ -13,7 +13,7 @@ use Rattle.walk.specs.declared.Cursor.{Cursor}
 use Rattle.walk.specs.declared.Next.the-variants.{Paused}
 use Rattle.walk_laws.specs.Calls.{Ask, Some, AllStopped}
 use Rattle.walk_laws.specs.Under.{allIds, allReads}
-use Rattle.walk_laws.specs.Walks.{Spaced, SpacedAs}
+use Rattle.walk_laws.specs.Walks.{Spaced, SpacedAs, FewReads}
 use Rattle.walk_laws.proofs.Bounds.{spaced-reads}
 use Rattle.formula_codes.specs.Tree.{four, nth}
 use Rattle.formula_ask.specs.Calls.{formulaWords}
@@ -41,7 +41,8 @@ module _ (a b c d : List ℕ) where
 
   module _ {cs : List ℕ} (l : Lent ss cs) where
     -- "Starting reads the top word and reports one read.", and does not refuse
-    pub walk-starts : (k : Cursor) → formulaStartIn ss cs k ≡ record { cursor = startAt (top (cap a)) (formulaWords ss cs (top (cap a)) 0); reads = 1; answer = Paused }
+    pub walk-starts : (k : Cursor)
+        → formulaStartIn ss cs k ≡ record { cursor = startAt (top (cap a)) (formulaWords ss cs (top (cap a)) 0); reads = 1; answer = Paused }
     unfolding formulaStartIn
     walk-starts k = rw (l .accepted)
 
@@ -63,12 +64,12 @@ module _ (a b c d : List ℕ) where
     walk-gaps = formula-spaced a b c d cs (l .accepted) (sounds-lent l)
 
     -- and of next and fill in any mix, which hand out and read what next alone does
-    pub walk-fill-gaps : UnionCodes cs → (k : Cursor) (q : List Ask) → SpacedAs (top (cap a)) (nextOver ss cs) (fillOver ss cs) q (formulaStartIn ss cs k .cursor)
+    pub walk-fill-gaps : UnionCodes cs → (k : Cursor) (q : List Ask)
+        → SpacedAs (top (cap a)) (nextOver ss cs) (fillOver ss cs) q (formulaStartIn ss cs k .cursor)
     walk-fill-gaps = formula-fill-spaced a b c d cs (l .accepted) (sounds-lent l)
 
-    -- so they have read at most three words for each member handed out and three more, and where they ended none more
-    pub walk-reads : UnionCodes cs → (k : Cursor) (q : List Ask)
-        → (let w = walkOver ss cs k q in (w .total ≤ top (cap a) * suc (length (w .members))) × (w .over ≡ true → w .total ≤ top (cap a) * length (w .members)))
+    -- so in all they read at most three words for each member handed out and three more, and where they ended none more
+    pub walk-reads : UnionCodes cs → (k : Cursor) (q : List Ask) → FewReads (top (cap a)) (walkOver ss cs k q)
     walk-reads u k q = spaced-reads (walk-fill-gaps u k q)
 
   -- "An intersection reads no more than either side alone."

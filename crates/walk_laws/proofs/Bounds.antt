@@ -14,7 +14,7 @@ use Rattle.walk_fill.specs.Fill.{Filled, stopped, goOn}
 use Rattle.walk_fill.specs.declared.Stop.the-variants.{Full}
 use Rattle.walk_laws.specs.Calls.{Ask, askedOf, Run, onward, runBy}
 use Rattle.walk_laws.specs.Calls.Ask.{one}
-use Rattle.walk_laws.specs.Walks.{spacedBy, Spaced, SpacedAs}
+use Rattle.walk_laws.specs.Walks.{spacedBy, Spaced, SpacedAs, FewReads}
 
 module _ (t : ℕ) (nexts : ℕ → Cursor → Step) (fills : ℕ → ℕ → Cursor → Filled) where
   abbrev run : Cursor → List ℕ → Run
@@ -45,10 +45,9 @@ module _ (t : ℕ) (nexts : ℕ → Cursor → Step) (fills : ℕ → ℕ → Cu
       let a = nexts b c in
       first-within (a .answer) (a .reads) (a .cursor) r bs h (within bs (a .cursor))
 
--- "at most three words are read before each next member and none before the end": so calls, next and fill in any mix, have read at most t
--- words for each member that they handed out and t more, and where they ended none more
-pub spaced-reads : {t : ℕ} {nexts : ℕ → Cursor → Step} {fills : ℕ → ℕ → Cursor → Filled} {l : List Ask} {c : Cursor} → SpacedAs t nexts fills l c
-    → (let w = runBy (askedOf nexts fills) c l in (w .total ≤ t * suc (length (w .members))) × (w .over ≡ true → w .total ≤ t * length (w .members)))
+-- "at most three words are read before each next member and none before the end", by calls of next and fill in any mix
+pub spaced-reads : {t : ℕ} {nexts : ℕ → Cursor → Step} {fills : ℕ → ℕ → Cursor → Filled} {l : List Ask} {c : Cursor}
+    → SpacedAs t nexts fills l c → FewReads t (runBy (askedOf nexts fills) c l)
 spaced-reads {t} {nexts} {fills} {l} {c} s =
-    subst (λ (w : Run). (w .total ≤ t * suc (length (w .members))) × (w .over ≡ true → w .total ≤ t * length (w .members))) (sym (s .same))
-    (let h = within t nexts fills (s .budgets) c 0 (s .gaps) in (omega (arith, h .0 (omega arith)), λ e. omega (arith, h .1 e)))
+    let h = within t nexts fills (s .budgets) c 0 (s .gaps) in
+    subst (FewReads t) (sym (s .same)) (omega (arith, h .0 (omega arith)), λ e. omega (arith, h .1 e))

@@ -1,8 +1,10 @@
 -- What is said of walks: over any layer words `lw`, with t the top layer, and on one store.
+use mathlib.Core.Bool.{true}
 use mathlib.Core.List.{List, [], _∷_, map, List·Memᴰ}
 use mathlib.Core.Logic.{_↔_}
 use mathlib.Core.Path.{_≡_}
-use Prim.Native.Nat.{ℕ, suc, _+_, _/_, _%_, _^_, _≤_, _<_}
+use Prim.Native.Nat.{ℕ, suc, _+_, _*_, _/_, _%_, _^_, _≤_, _<_}
+use lib.ListN.{length}
 use Rattle.util.specs.Word.{bit, Rising}
 use Rattle.store.specs.Layout.{top, cap}
 use Rattle.store.specs.Word.{word, Member as MemberOf, members}
@@ -64,6 +66,10 @@ pub record SpacedAs (t : ℕ) (nexts : ℕ → Cursor → Step) (fills : ℕ →
   pub budgets : List ℕ
   pub same : runBy (askedOf nexts fills) c l ≡ runBy (askedOf nexts fills) c (map one budgets)
   pub gaps : Spaced t nexts budgets c 0
+
+-- what follows of the words that such calls read in all: at most t for each member handed out and t more, and where they ended none more
+abbrev pub FewReads : ℕ → Run → Type 0
+FewReads t w = (w .total ≤ t * suc (length (w .members))) × (w .over ≡ true → w .total ≤ t * length (w .members))
 
 -- ---- on one store
 
