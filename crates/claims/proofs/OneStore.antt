@@ -5,7 +5,7 @@ use mathlib.Core.Path.{_≡_, sym, subst}
 use Prim.Native.Nat.{ℕ, _+_, _≤_}
 use lib.ListN.{length}
 use Rattle.store.specs.Layout.{top, cap}
-use Rattle.store.specs.Word.{word, members, memberCount}
+use Rattle.store.specs.Word.{word, memberCount}
 use Rattle.store.proofs.Geometry.{is-store}
 use Rattle.walk.specs.Calls.{startIn}
 use Rattle.walk.specs.Walk.{startAt}
@@ -14,11 +14,12 @@ use Rattle.walk.specs.declared.Next.the-variants.{Paused}
 use Rattle.walk.proofs.Answers.{started-is}
 use Rattle.walk_laws.specs.Calls.{Ask, Some, AllStopped}
 use Rattle.walk_laws.specs.Under.{allReads}
-use Rattle.walk_laws.specs.Walks.{Spaced, SpacedAs, FewReads, nextOn, fillOn, callOn, walkOn, Walked}
+use Rattle.walk_laws.specs.Walks.{Spaced, SpacedAs, FewReads, nextOn, fillOn, callOn, walkOn}
 use Rattle.walk_laws.proofs.Bounds.{spaced-reads}
 use Rattle.walk_laws.proofs.Store.{store-members, store-ends, store-keeps, store-gaps, store-fill-gaps}
 use Rattle.walk_reader.specs.Readers.{readerRun}
 use Rattle.walk_reader.proofs.Theorems.{reader-total, reader-members}
+use Rattle.claims.specs.OneWalk.{OneWalked, ReaderTold}
 use Rattle.claims.specs.Reached.{Reached}
 use Rattle.claims.proofs.Histories.{reached-fine}
 
@@ -30,9 +31,8 @@ module _ {N : ℕ} {s : List ℕ} (r : Reached N s) where
   pub one-starts : (k : Cursor) → startIn s k ≡ record { cursor = startAt (top N) (word N s (top N) 0); reads = 1; answer = Paused }
   one-starts = started-is (reached-fine r .is)
 
-  -- "However it is cut by read budgets, a walk that ends has handed out exactly the .. members, each once, ascending, and reported the count
-  -- of words that the definition says it reads." Its calls are start, and then next and fill in any mix.
-  pub one-members : (k : Cursor) (q : List Ask) → walkOn s k q .over ≡ true → Walked s k q
+  -- A WALK that ends has handed out exactly the members and reported the definition's reads
+  pub one-members : (k : Cursor) (q : List Ask) → OneWalked s k q
   one-members = store-members (reached-fine r)
 
   -- it does end, and no call refuses or reads past its budget
@@ -56,10 +56,8 @@ module _ {N : ℕ} {s : List ℕ} (r : Reached N s) where
   pub one-reads : (k : Cursor) (q : List Ask) → FewReads (top N) (walkOn s k q)
   one-reads k q = spaced-reads (one-fill-gaps k q)
 
-  -- A READER'S walk that ends has told exactly the members, and one read less than the definition counts: the top word, read when the
-  -- reader is made, is not told
-  pub reader-told : (bs : List ℕ) → readerRun s bs .over ≡ true
-      → (readerRun s bs .members ≡ members s) × (1 + readerRun s bs .total ≡ allReads (word N s) (top N))
+  -- A READER'S walk that ends has told exactly the members, and one read less than the definition counts
+  pub reader-told : (bs : List ℕ) → ReaderTold N s bs
   reader-told bs e =
       let f = reached-fine r in (
         reader-members s bs f e,

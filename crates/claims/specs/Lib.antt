@@ -3,3 +3,4 @@ pub mod Lent
 pub mod Again
 pub mod Calls
 pub mod Stores
+pub mod OneWalk

@@ -131,7 +131,8 @@ fn fill_in(
         if c.masks[0] == 0 {
             return walk_fill::rest(c, spent, count);
         }
-        c = walk_fill::hand_out(c, out, count);
+        walk_fill::put_id(out, count, c.place(0));
+        c = c.hand();
         count += 1;
     }
     walk_fill::made(c, spent, count, Stop::Full)

@@ -26,7 +26,7 @@ use Rattle.map_read.specs.Calls.{readOf}
 use Rattle.map_read.specs.Judge.{judgeOf, usedIn, mapWords}
 use Rattle.map_read.proofs.Layer.{length-words}
 use Rattle.map_read.proofs.Right.{MapTaken, map-taken, accepted-0}
-use Rattle.map_laws.specs.Claims.{MapOfSome}
+use Rattle.map_laws.specs.Claims.{SameMembers, SameBytes, MapOfSome}
 use Rattle.map_laws.proofs.Accepted.{words-low, words-used, words-map}
 use Rattle.map_laws.proofs.Stores.{build-words, long-in, made-fine, made-members, made-same}
 use Rattle.map_laws.proofs.Written.{LowNumbers, map-accepted, map-words}
@@ -92,7 +92,7 @@ module _ {N : ℕ} {s : List ℕ} (z : StoreOf N s) where
       lent-is = ap (λ (o : Outcome (List ℕ)). o .lent) written-read
 
       -- "A chunk map written and read again gives the same members", whether s is sound or not; the store read into is sound
-      pub round-trip-members : members (readOf (writeOf s b .lent) t .lent) ≡ members s
+      pub round-trip-members : SameMembers s t b
       round-trip-members = ap members lent-is ∙ made-members z
 
       pub round-trip-fine : SoundStore N (readOf (writeOf s b .lent) t .lent)
@@ -127,8 +127,7 @@ module _ (m : List ℕ) (N : ℕ) (e : judgeOf m N ≡ 0) where
   long-map bytes = ap (λ (ws : List ℕ). mapLen ws) words-back ∙ ap (λ (k : ℕ). 16 + 12 * k) (words-used bytes right)
 
   -- WHAT THE READER ACCEPTS, WRITTEN AGAIN, gives the same 16 + 12 W bytes
-  pub read-written : Bytes m → {t : List ℕ} → StoreOf N t → (b : List ℕ) → 16 + 12 * usedIn m ≤ length b
-      → writeOf (readOf m t .lent) b ≡ gives (16 + 12 * usedIn m) (take (16 + 12 * usedIn m) m ++ drop (16 + 12 * usedIn m) b)
+  pub read-written : Bytes m → {t : List ℕ} → StoreOf N t → (b : List ℕ) → 16 + 12 * usedIn m ≤ length b → SameBytes m t b
   read-written bytes {t} z b h =
       let l = long-map bytes in
       ap (λ (o : Outcome (List ℕ)). writeOf (o .lent) b) (read-does m z e)

@@ -16,7 +16,7 @@ use Rattle.store.proofs.Geometry.{is-store}
 use Rattle.set_layers.specs.Calls.{layerPart}
 use Rattle.walk.specs.Calls.{Fine, fits}
 use Rattle.walk.specs.Steps.{refusalOf, parts, isReading, Going}
-use Rattle.walk.specs.Walk.{Kind, lowLayer, kind, placeAt, handed, more, next}
+use Rattle.walk.specs.Walk.{Kind, lowLayer, kind, firstBit, placeAt, handed, more, next}
 use Rattle.walk.specs.Walk.Kind.{gives, reads, done}
 use Rattle.walk.specs.declared.Cursor.{Cursor}
 use Rattle.walk.specs.declared.Next.{Next}
@@ -26,7 +26,7 @@ use Rattle.walk.proofs.Answers.{was-refused, lent-words}
 use Rattle.walk.proofs.Cursors.{Low, low-found, low-stop, low-at, reading-low, resting-low, id-cut}
 use Rattle.walk.proofs.Turns.{next-gives, next-done, next-paused, next-same}
 use Rattle.walk_fill.specs.Fill.{Filled, after, stopped, goOn, fillFrom, restOf, batch, batchPaper, filled, fillIn}
-use Rattle.walk_fill.specs.Steps.{Filling, HandsOut}
+use Rattle.walk_fill.specs.Steps.{Filling}
 use Rattle.walk_fill.specs.declared.Batch.{Batch}
 use Rattle.walk_fill.specs.declared.Stop.{Stop}
 use Rattle.walk_fill.specs.declared.Stop.the-variants.{Full, Paused as StopPaused, End as StopEnd, Refused as StopRefused}
@@ -164,10 +164,13 @@ module _ {lw : ℕ → ℕ → ℕ} {t b : ℕ} {c₀ : Cursor} {out₀ : List �
               ∙ ap₂ (λ (n : ℕ) (x : Cursor). after (g .ids ++ (v ∷ [])) r (fillFrom lw t n (b - r) x)) m (sym d-is);
         }
 
-    pub fill-handed : t ≤ topMost → getD (c .masks) 0 0 ≢ 0 → {d : Cursor} {out′ : List ℕ} → HandsOut t c k out d out′ → Filling lw t b c₀ out₀ d r (k + 1) out′
-    fill-handed few some {d} a =
-        subst (Filling lw t b c₀ out₀ d r (k + 1)) (sym (a .places))
-        (fill-again some d (placeAt t c 0 % 2 ^ 32) (a .cursor) (id-cut t c few (g .fine) some (a .bit)))
+    -- the member at hand is written, and the cursor goes on behind it
+    pub fill-handed : t ≤ topMost → getD (c .masks) 0 0 ≢ 0 → {d : Cursor} {q : ℕ} {out′ : List ℕ}
+        → (q ≡ placeAt t c 0) × (0 < getD (c .masks) 0 0 → firstBit c 0 < 64) → out′ ≡ set out k (q % 2 ^ 32) → d ≡ handed c
+        → Filling lw t b c₀ out₀ d r (k + 1) out′
+    fill-handed few some {d} p w e =
+        subst (Filling lw t b c₀ out₀ d r (k + 1)) (sym (w ∙ ap (λ (x : ℕ). set out k (x % 2 ^ 32)) (p .0)))
+        (fill-again some d (placeAt t c 0 % 2 ^ 32) e (id-cut t c few (g .fine) some (p .1)))
 
     -- words read
     pub fill-down : {d : Cursor} {n : ℕ} → Going lw t b r c d n → Filling lw t b c₀ out₀ d n k out

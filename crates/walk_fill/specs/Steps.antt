@@ -1,18 +1,11 @@
--- What the steps of a fill leave and its loop keeps, over any layer words.
+-- What the loop of a fill keeps, over any layer words.
 use mathlib.Core.List.{List, _++_}
 use mathlib.Core.Path.{_≡_}
-use Prim.Native.Nat.{ℕ, _-_, _%_, _^_, _≤_, _<_}
-use lib.ListN.{length, getD, set, drop}
+use Prim.Native.Nat.{ℕ, _-_, _≤_}
+use lib.ListN.{length, drop}
 use Rattle.walk.specs.Calls.{Fine}
-use Rattle.walk.specs.Walk.{firstBit, placeAt, handed}
 use Rattle.walk.specs.declared.Cursor.{Cursor}
 use Rattle.walk_fill.specs.Fill.{after, fillFrom}
-
--- the member at hand stands at place k, where there is one, and the cursor after it; an id has 32 bits
-pub record HandsOut (t : ℕ) (c : Cursor) (k : ℕ) (out : List ℕ) (d : Cursor) (out′ : List ℕ) : Type 0 where
-  pub cursor : d ≡ handed c
-  pub places : out′ ≡ set out k (placeAt t c 0 % 2 ^ 32)
-  pub bit : 0 < getD (c .masks) 0 0 → firstBit c 0 < 64
 
 -- After k members and r reads, with `out` for out₀: what the fill must hand out is what stands in `out` and what is left to it.
 pub record Filling (lw : ℕ → ℕ → ℕ) (t b : ℕ) (c₀ : Cursor) (out₀ : List ℕ) (c : Cursor) (r k : ℕ) (out : List ℕ) : Type 0 where

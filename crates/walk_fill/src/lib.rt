@@ -1,14 +1,14 @@
 // Many members of one store in one call, for callers that keep a cursor: what that many calls of `Cursor::next` do, with the tests made once.
 ghost use mathlib.Core.List.{[], _∷_};
 ghost use mathlib.Core.Path.{_≡_};
-ghost use lib.ListN.{length};
+ghost use Prim.Native.Nat.{_%_, _^_};
+ghost use lib.ListN.{length, set};
 ghost use Rattle.util.specs.Outcome.{Settled};
 ghost use Rattle.store.specs.Layout.{topMost};
 ghost use Rattle.walk.specs.Calls.{Fine};
 ghost use Rattle.walk.specs.Steps.{parts};
 ghost use Rattle.walk.specs.Walk.{kind};
 ghost use Rattle.walk_fill.specs.Fill.{fillFrom, batchPaper, filled, fillOf, restOf};
-ghost use Rattle.walk_fill.specs.Steps.{HandsOut};
 use walk::Cursor;
 
 // Why a fill stopped: the places were full, or as next.
@@ -49,17 +49,14 @@ pub fn rest(c: Cursor, reads: u64, count: usize) -> Batch
     made(c, reads, count, Stop::End)
 }
 
-// The member at hand is written to a place of `out`, where there is one; answers the cursor after it. An id has 32 bits.
-pub fn hand_out(c: Cursor, out: &mut [u32], at: usize) -> Cursor
-    ensures { λ r. ⌜ HandsOut topMost c at (now (out .entry)) r (now (out .exit)) ⌝ }
+// The id at a place of layer 0 is written to a place of `out`, where there is one. An id has 32 bits.
+pub fn put_id(out: &mut [u32], at: usize, place: usize)
+    ensures { λ r. ⌜ now (out .exit) ≡ set (now (out .entry)) at (place % 2 ^ 32) ⌝ }
 {
-    let id = (c.place(0) % 4294967296) as u32;
-    let d = c.hand();
     if at < out.len() {
-        out[at] = id;
-        return d;
+        out[at] = (place % 4294967296) as u32;
+        return;
     }
-    d
 }
 
 // Fill over three layers, where nothing is refused.
@@ -79,7 +76,8 @@ fn fill_in(from: Cursor, l2: &[u64], l1: &[u64], l0: &[u64], budget: u64, out: &
         if c.masks[0] == 0 {
             return rest(c, spent, count);
         }
-        c = hand_out(c, out, count);
+        put_id(out, count, c.place(0));
+        c = c.hand();
         count += 1;
     }
     made(c, spent, count, Stop::Full)
