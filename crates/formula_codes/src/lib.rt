@@ -10,18 +10,21 @@ ghost use Rattle.formula_codes.specs.Codes.{cutsIn, takesIn, left, isFor
 ghost use Rattle.formula_codes.specs.Steps.{waiting};
 ghost use Rattle.formula_codes.specs.Tree.{joined, four};
 
-// What a code makes of two words of layer k: 16 and, 17 or, 18 xor, and any other as 18. Above layer 0, xor is or.
+// What a code makes of two words of layer k: 16 and, 17 or, 18 xor, and any other as 18. Above layer 0, xor is or. A match stays a branch, so that
+// no word waits for the code; in this order of the arms the compiled code asks for 16 first.
 pub fn joined(code: u8, k: usize, x: u64, y: u64) -> u64
     ensures { λ r. ⌜ r ≡ joined code k x y ⌝ }
 {
-    let op = code as u64;
-    if k == 0 {
-        return ops_word::combine(op, x, y);
+    match code {
+        17 => ops_word::combine(ops_word::OR, x, y),
+        16 => ops_word::combine(ops_word::AND, x, y),
+        _ => {
+            if k == 0 {
+                return ops_word::combine(ops_word::XOR, x, y);
+            }
+            ops_word::combine(ops_word::OR, x, y)
+        }
     }
-    if op == ops_word::AND {
-        return ops_word::combine(ops_word::AND, x, y);
-    }
-    ops_word::combine(ops_word::OR, x, y)
 }
 
 // Whether some code is 19 or more: no other looks at which bits exist.
