@@ -62,6 +62,7 @@ fn fill(piece: &mut [u8], left: u64) -> usize
 // Reads to the end of the input. `left` is how many more bytes are taken: it falls by what each turn brings, so the loop ends, and the
 // number of a line, which is at most the number of bytes taken, never wraps. A last line that lacks its newline is answered at the end.
 fn main() {
+    // the capacity, and the words that it takes, as document 01 names them
     let mut store = [0u64; 4163];
     set_whole::open(&mut store, 262144);
     let mut line = [0u8; 13];
