@@ -2,7 +2,7 @@
 use mathlib.Core.Bool.{Bool, false, cond}
 use mathlib.Core.List.{List, [], _∷_, List·Memᴰ, List·Memᴰ·cases-cons, List·Memᴰ·not-nil}
 use mathlib.Core.List.List·Memᴰ.{List·Memᴰ·head}
-use mathlib.Core.Logic.{_↔_, _≢_, ⊎-elim}
+use mathlib.Core.Logic.{_↔_, _≢_, _⊎_, inl, inr, ⊎-elim}
 use mathlib.Core.Path.{_≡_, refl, sym, ap, _∙_, subst}
 use Prim.Native.Nat.{ℕ, suc, _+_, _-_, _/_, _%_, _≤_, _<_}
 use native.Mathlib.Decide.{ℕ-discrete}
@@ -83,6 +83,14 @@ module _ (s : List ℕ) (is : StoreOf (cap s) s) where
   answer-is : firstFreeOf s ≡ firstOf (freeFrom (cap s) s searchStart)
   unfolding firstFreeOf
   answer-is = ap (λ (b : Bool). cond b (firstOf (freeFrom (cap s) s searchStart)) (refuses 2 tt)) (is-store is)
+
+  -- the search finds an id, or refuses by 12
+  pub free-told : ((i : ℕ) × (firstFreeOf s ≡ gives i tt)) ⊎ (firstFreeOf s ≡ refuses 12 tt)
+  free-told = go (freeFrom (cap s) s searchStart) answer-is
+    where
+      go : (l : List ℕ) → firstFreeOf s ≡ firstOf l → ((i : ℕ) × (firstFreeOf s ≡ gives i tt)) ⊎ (firstFreeOf s ≡ refuses 12 tt)
+      go [] e = inr e
+      go (i ∷ l) e = inl (i, e)
 
   -- THE ANSWER is below N and not a member, and every smaller id from the first on is a member
   pub free-found : (i : ℕ) → firstFreeOf s ≡ gives i tt → LowestFree s i

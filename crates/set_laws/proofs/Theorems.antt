@@ -5,7 +5,7 @@ use mathlib.Core.List.{List, [], _∷_, List·Memᴰ, List·Memᴰ·cases-cons, 
 use mathlib.Core.List.List·Memᴰ.{List·Memᴰ·head, List·Memᴰ·tail}
 use mathlib.Core.Logic.{_≢_, _↔_, _⊎_, inl, inr, ⊎-elim}
 use mathlib.Core.Path.{_≡_, refl, sym, ap, _∙_, subst}
-use Prim.Native.Nat.{ℕ, _≤_, _<_}
+use Prim.Native.Nat.{ℕ, suc, _+_, _≤_, _<_}
 use native.Mathlib.Decide.{decLt, ℕ-discrete}
 use native.Mathlib.Omega.{arith}
 use borrow.Author.Tests.{le-ltb, lt-ltb, ltb-true}
@@ -15,15 +15,16 @@ use Rattle.util.specs.Outcome.{Outcome}
 use Rattle.util.proofs.Same.{both}
 use Rattle.store.specs.Answer.{says, does, refuses}
 use Rattle.store.specs.Layout.{storeLen, cap, isStore, StoreOf}
-use Rattle.store.specs.Word.{on, Member, Sound, SoundStore}
+use Rattle.store.specs.Word.{on, Member, countBelow, Sound, SoundStore}
 use Rattle.store.proofs.Geometry.{store-is, is-store}
 use Rattle.store.proofs.Members.{member-on, on-member, own}
+use Rattle.store.proofs.Words.{on-lt}
 use Rattle.set_member.specs.Calls.{holds, isMember, containsOf}
 use Rattle.set_member.proofs.Tested.{is-member}
 use Rattle.set_edit.specs.Calls.{moveOf, addOf, removeOf, allBelow, addAll, addListOf}
 use Rattle.set_edit.specs.Edit.{movedBy}
 use Rattle.set_edit.proofs.Edits.{cap-moved, store-moved}
-use Rattle.set_laws.proofs.Moves.{sound-moved, fine-moved, on-moved-same, on-moved-other}
+use Rattle.set_laws.proofs.Moves.{sound-moved, fine-moved, on-moved-same, on-moved-other, count-moved-beyond}
 
 -- ---- `contains` says yes exactly for a member
 
@@ -132,6 +133,25 @@ member-remove s i j h = go (decLt i (cap s)) (ℕ-discrete j i)
     go (no g) d =
         subst (λ (t : List ℕ). Member t j ↔ ((j ≢ i) × Member s j)) (sym (ap (λ (o : Outcome (List ℕ)). o .lent) (remove-past s i h (omega (arith, g)))))
         (λ m. ((λ e. g (subst (λ (x : ℕ). x < cap s) e (m .below))), m), λ m. m .1)
+
+-- ---- HOW MANY members are below any id beyond the one moved
+
+module _ (s : List ℕ) (i : ℕ) (h : isStore s ≡ true) (a : ℕ) (beyond : i < a) where
+  count-after : (b : Bool) (past : Outcome (List ℕ)) → i < cap s
+      → countBelow (cap s) (moveOf b past s i .lent) a + on (cap s) s 0 i ≡ countBelow (cap s) s a + cond b 1 0
+  count-after b past g = rw (move-room b past (store-is h) i g) (count-moved-beyond b (cap s) s i (store-is h .long) g a beyond)
+
+  -- one more, where the id was none
+  pub count-add : i < cap s → (Member s i → ⊥) → countBelow (cap s) (addOf s i .lent) a ≡ suc (countBelow (cap s) s a)
+  count-add g none = go (ℕ-discrete (on (cap s) s 0 i) 1)
+    where
+      go : Dec (on (cap s) s 0 i ≡ 1) → countBelow (cap s) (addOf s i .lent) a ≡ suc (countBelow (cap s) s a)
+      go (yes e) = absurd (none (record { below = g; held = e }))
+      go (no n) = omega (arith, count-after true (refuses 3 s) g, on-lt (cap s) s 0 i)
+
+  -- one less, where it was one
+  pub count-remove : Member s i → suc (countBelow (cap s) (removeOf s i .lent) a) ≡ countBelow (cap s) s a
+  count-remove m = omega (arith, count-after false (says false s) (m .below), m .held)
 
 -- ---- THE ANSWERS of `add` and `remove`: what `contains` would have said before
 

@@ -1,11 +1,11 @@
 -- What each way out of the code answers is what the definition answers there.
-use mathlib.Core.Bool.{true, false, Bool}
+use mathlib.Core.Bool.{Bool, true, false, cond}
 use mathlib.Core.List.{List}
 use mathlib.Core.Logic.{_≢_}
-use mathlib.Core.Path.{_≡_, sym, ap, _∙_}
+use mathlib.Core.Path.{_≡_, refl, sym, ap, _∙_}
 use Prim.Native.Nat.{ℕ, suc, _-_}
 use native.Mathlib.Omega.{arith}
-use borrow.Author.Tests.{eq-eqb, ne-eqb}
+use borrow.Author.Tests.{eq-eqb, ne-eqb, eqb-true}
 use lib.Dec.{eqb}
 use lib.ListN.{length, set, replicate}
 use Rattle.util.specs.Outcome.{Settled, settled}
@@ -18,7 +18,7 @@ use Rattle.store.specs.declared.Asked.the-variants.{Is, Refused as AskedRefused
 use Rattle.store.specs.declared.Did.the-variants.{Done, Refused as DidRefused}
 use Rattle.store.proofs.Ends.{end-cap, top-word}
 use Rattle.store.proofs.Geometry.{is-store, after-header}
-use Rattle.set_whole.specs.Calls.{openOf, clearOf, isEmptyOf, equalOf}
+use Rattle.set_whole.specs.Calls.{openRefusal, openOf, clearOf, isEmptyOf, equalOf}
 
 -- zeros, with the capacity in word 0, are the empty store
 pub empty-is : (N n : ℕ) → n ≡ storeLen N → set (replicate n 0) 0 N ≡ empty N
@@ -28,21 +28,38 @@ empty-is N n h =
 
 -- ---- open
 
-module _ (s : List ℕ) (N : ℕ) where
-  pub open-1 : isCap N ≡ false → Settled didPaper (openOf s N) (DidRefused 1) s
-  unfolding openOf
-  open-1 h = settled (rw h)
+module _ (N len : ℕ) where
+  pub refuses-1 : isCap N ≡ false → 1 ≡ openRefusal N len
+  unfolding openRefusal
+  refuses-1 h = rw h
 
   module _ (h : isCap N ≡ true) where
-    pub open-2 : length s ≢ endOf N 0 → Settled didPaper (openOf s N) (DidRefused 2) s
-    unfolding openOf
-    open-2 n = settled (rw (h, ne-eqb (length s) (storeLen N) (λ q. n (q ∙ sym (end-cap N 0 h)))))
+    pub refuses-2 : len ≢ endOf N 0 → 2 ≡ openRefusal N len
+    unfolding openRefusal
+    refuses-2 n = rw (h, ne-eqb len (storeLen N) (λ q. n (q ∙ sym (end-cap N 0 h))))
 
-    pub open-done : (t : List ℕ) → length s ≡ endOf N 0 → t ≡ set (replicate (length s) 0) 0 N → Settled didPaper (openOf s N) Done t
-    unfolding openOf
-    open-done t l e =
-        let long : length s ≡ storeLen N = l ∙ end-cap N 0 h in
-        settled (rw (h, eq-eqb (length s) (storeLen N) long) (ap does (sym (e ∙ empty-is N (length s) long))))
+    pub refuses-0 : len ≡ endOf N 0 → 0 ≡ openRefusal N len
+    unfolding openRefusal
+    refuses-0 l = rw (h, eq-eqb len (storeLen N) (l ∙ end-cap N 0 h))
+
+-- where nothing stands in the way, the capacity is one and the slice has its length
+pub can-open : (N len : ℕ) → openRefusal N len ≡ 0 → (isCap N ≡ true) × (len ≡ storeLen N)
+unfolding openRefusal
+can-open N len h = go (isCap N) refl (eqb len (storeLen N)) refl h
+  where
+    go : (a : Bool) → isCap N ≡ a → (b : Bool) → eqb len (storeLen N) ≡ b → cond {A = ℕ} a (cond b 0 2) 1 ≡ 0 → (isCap N ≡ true) × (len ≡ storeLen N)
+    go true e true f q = (e, eqb-true len (storeLen N) f)
+    go true e false f q = absurd (omega (arith, q))
+    go false e b f q = absurd (omega (arith, q))
+
+module _ (s : List ℕ) (N : ℕ) where
+  pub open-refused : {no : ℕ} → no ≡ openRefusal N (length s) → no ≢ 0 → Settled didPaper (openOf s N) (DidRefused no) s
+  unfolding openOf
+  open-refused {no} e n = settled (rw (← e, ne-eqb no 0 n))
+
+  pub open-done : (t : List ℕ) → openRefusal N (length s) ≡ 0 → t ≡ set (replicate (length s) 0) 0 N → Settled didPaper (openOf s N) Done t
+  unfolding openOf
+  open-done t h e = settled (rw h (ap does (sym (e ∙ empty-is N (length s) (can-open N (length s) h .1)))))
 
 -- ---- clear, is_empty
 

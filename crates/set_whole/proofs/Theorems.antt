@@ -8,7 +8,7 @@ use native.Mathlib.Decide.{ℕ-discrete}
 use native.Mathlib.Omega.{arith}
 use borrow.Author.Tests.{eq-eqb, eqb-true}
 use lib.Dec.{eqb}
-use lib.ListN.{getD}
+use lib.ListN.{length, getD}
 use Rattle.util.specs.Outcome.{Outcome}
 use Rattle.util.specs.Word.{bit, same}
 use Rattle.util.proofs.Bits.{bit-of-zero}
@@ -17,13 +17,15 @@ use Rattle.util.proofs.Same.{same-refl, same-eq}
 use Rattle.store.specs.Answer.{says}
 use Rattle.store.specs.Build.{empty}
 use Rattle.store.specs.Layout.{top, maxCap, cap}
-use Rattle.store.specs.Word.{word, on, anc, Member, SoundStore}
+use Rattle.store.specs.Word.{word, on, anc, Member, countBelow, SoundStore}
 use Rattle.store.proofs.Build.{fine-empty, word-empty}
+use Rattle.store.proofs.Ends.{cap-in}
 use Rattle.store.proofs.Geometry.{is-store}
-use Rattle.store.proofs.Members.{own, over-on, summary-members, fine-same}
+use Rattle.store.proofs.Members.{own, over-on, summary-members, fine-same, none-counted}
 use Rattle.store.proofs.TopLayer.{top-one}
 use Rattle.store.proofs.Words.{word-lt, on-word, bit-place, place-in, anc-in}
-use Rattle.set_whole.specs.Calls.{isEmptyOf, equalOf}
+use Rattle.set_whole.specs.Calls.{openRefusal, openOf, isEmptyOf, equalOf}
+use Rattle.set_whole.proofs.Answers.{can-open}
 
 -- opening and clearing leave `empty N` (their definitions say so): a sound store with no member
 pub opened : (N : ℕ) → 1 ≤ N → N ≤ maxCap → SoundStore N (empty N) × ((i : ℕ) → Member (empty N) i → ⊥)
@@ -32,6 +34,15 @@ opened N some most = (
   fine-empty N some most,
   λ i m. omega (arith, sym (m .held) ∙ ap (λ (w : ℕ). bit w (i % 64)) (word-empty N some 0 (i / 64) (omega arith)) ∙ bit-of-zero (i % 64)),
 )
+
+-- so an opening that nothing stands in the way of leaves one
+pub opened-by : (s : List ℕ) (N : ℕ) → openRefusal N (length s) ≡ 0
+    → SoundStore N (openOf s N .lent) × ((i : ℕ) → Member (openOf s N .lent) i → ⊥) × (countBelow N (openOf s N .lent) N ≡ 0)
+unfolding openOf
+opened-by s N h =
+    let room = cap-in N (can-open N (length s) h .0) in
+    let o = opened N (room .0) (room .1) in
+    rw h (o .0, o .1, none-counted (empty N) (o .1) N)
 
 yes-is : (b : Bool) → says b tt ≡ says {X = Unit {0}} true tt → b ≡ true
 yes-is true e = refl

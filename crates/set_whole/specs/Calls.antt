@@ -11,9 +11,14 @@ use Rattle.store.specs.Build.{empty}
 use Rattle.store.specs.Layout.{top, isCap, storeLen, cap, isStore}
 use Rattle.store.specs.Word.{word}
 
--- "Open zeroes all words and writes N." Refusals 1, 2 ("open tests the length only, against the N given").
+-- What stands in the way of opening `len` words for capacity N, 0 for nothing. Refusals 1, "N is 0 or above 16,777,216", then
+-- 2: "open tests the length only, against the N given".
+unfoldable pub openRefusal : ℕ → ℕ → ℕ
+openRefusal N len = cond (isCap N) (cond (eqb len (storeLen N)) 0 2) 1
+
+-- "Open zeroes all words and writes N."
 unfoldable pub openOf : List ℕ → ℕ → Outcome (List ℕ)
-openOf s N = cond (isCap N) (cond (eqb (length s) (storeLen N)) (does (empty N)) (refuses 2 s)) (refuses 1 s)
+openOf s N = let r = openRefusal N (length s) in cond (eqb r 0) (does (empty N)) (refuses r s)
 
 -- "`clear` zeroes the layers and keeps N."
 unfoldable pub clearOf : List ℕ → Outcome (List ℕ)

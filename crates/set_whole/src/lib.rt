@@ -4,7 +4,7 @@ ghost use lib.ListN.{length, replicate, set};
 ghost use Rattle.util.specs.Outcome.{Settled};
 ghost use Rattle.util.specs.Word.{same};
 ghost use Rattle.store.specs.Answer.{askedPaper, didPaper};
-ghost use Rattle.set_whole.specs.Calls.{openOf, clearOf, isEmptyOf, equalOf};
+ghost use Rattle.set_whole.specs.Calls.{openRefusal, openOf, clearOf, isEmptyOf, equalOf};
 use store::Asked;
 use store::Did;
 
@@ -27,19 +27,27 @@ fn empty(store: &mut [u64], n: usize)
     store::name(store, n);
 }
 
+// What stands in the way of opening a slice of so many words for capacity n: 0 for nothing, or the refusal's number.
+pub fn can_open(n: usize, len: usize) -> u32
+    ensures { λ r. ⌜ r ≡ openRefusal n len ⌝ }
+{
+    if store::is_capacity(n) {
+        return if len == store::end(n, 0) { 0 } else { 2 };
+    }
+    1
+}
+
 // Makes the slice the empty store of capacity n.
 pub fn open(store: &mut [u64], n: u32) -> Did
     ensures { λ r. ⌜ Settled didPaper (openOf (now (store .entry)) n) r (now (store .exit)) ⌝ }
 {
     let cap = n as usize;
-    if store::is_capacity(cap) {
-        if store.len() == store::end(cap, 0) {
-            empty(store, cap);
-            return Did::Done;
-        }
-        return Did::Refused(2);
+    let no = can_open(cap, store.len());
+    if no != 0 {
+        return Did::Refused(no);
     }
-    Did::Refused(1)
+    empty(store, cap);
+    Did::Done
 }
 
 // Removes every member.

@@ -2,16 +2,16 @@
 use mathlib.Core.List.{List, List·Memᴰ}
 use mathlib.Core.Logic.{_↔_}
 use mathlib.Core.Path.{_≡_, refl, sym, ap, _∙_, subst}
-use Prim.Native.Nat.{ℕ, zero, suc, _+_, _*_, _/_, _≤_, _<_}
+use Prim.Native.Nat.{ℕ, zero, suc, _+_, _*_, _/_, _≤_, _<_, min}
 use native.Mathlib.Decide.{decLt, ℕ-discrete}
 use native.Mathlib.Omega.{arith}
 use lib.ListN.{length, getD}
 use lib.Seq.{ext-getD}
 use Rattle.util.specs.Word.{Rising}
 use Rattle.util.proofs.Bits.{word-ext}
-use Rattle.util.proofs.Places.{some-bit, places-in, in-places, places-rising}
+use Rattle.util.proofs.Places.{some-bit, places-none, places-in, in-places, places-rising}
 use Rattle.store.specs.Layout.{header, top, room, storeLen, cap, StoreOf}
-use Rattle.store.specs.Word.{word, on, anc, Member, members, Sound, Words64, SoundStore}
+use Rattle.store.specs.Word.{word, on, anc, Member, members, countBelow, Sound, Words64, SoundStore}
 use Rattle.store.proofs.Geometry.{spot-in}
 use Rattle.store.proofs.Words.{word-in, word-lt, on-lt, on-word, bit-place}
 
@@ -38,6 +38,14 @@ members-are s i = (
 pub members-rise : (s : List ℕ) → Rising 0 (members s)
 unfolding members
 members-rise s = places-rising (on (cap s) s 0) 0 (cap s)
+
+-- where there is no member, none is counted
+pub none-counted : (s : List ℕ) → ((i : ℕ) → Member s i → ⊥) → (a : ℕ) → countBelow (cap s) s a ≡ 0
+none-counted s none a = ap length (places-none (on (cap s) s 0) 0 (min a (cap s)) (λ i l u. off i (omega arith) (ℕ-discrete (on (cap s) s 0 i) 1)))
+  where
+    off : (i : ℕ) → i < cap s → Dec (on (cap s) s 0 i ≡ 1) → on (cap s) s 0 i ≡ 0
+    off i l (yes e) = absurd (none i (record { below = l; held = e }))
+    off i l (no n) = omega (arith, on-lt (cap s) s 0 i)
 
 -- ---- THE SUMMARY. Place p of layer k is on exactly if an id under it is.
 

@@ -3,3 +3,4 @@ pub mod Places
 pub mod Same
 pub mod Count
 pub mod Lowest
+pub mod Zeros

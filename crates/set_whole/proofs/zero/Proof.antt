@@ -4,7 +4,7 @@ use Prim.Native.Nat.{_≤_, _-_}
 use native.Mathlib.Omega.{arith}
 use borrow.Author.Needs.{needs}
 use lib.ListN.{length, length-set}
-use Rattle.set_whole.proofs.Loops.{Zeros, zeros-more, zeros-all}
+use Rattle.util.proofs.Zeros.{Zeros, zeros-more, zeros-all}
 use Rattle.set_whole.proofs.zero.Statement.{statement}
 use Rattle.set_whole.proofs.zero.Tie as tie
 
