@@ -58,9 +58,12 @@ pub record History : Type 0 where
   pub now : Directory
   pub figures : Figures
 
-unfoldable pub goOnWith : History → List DirectoryCall → History
+abbrev pub oneMore : History → DirectoryCall → History
+oneMore h k = let o = outcomeOf (h .now) k in record { now = o .lent; figures = counted (h .figures) k o }
+
+abbrev pub goOnWith : History → List DirectoryCall → History
 goOnWith h [] = h
-goOnWith h (k ∷ ks) = let o = outcomeOf (h .now) k in goOnWith (record { now = o .lent; figures = counted (h .figures) k o }) ks
+goOnWith h (k ∷ ks) = goOnWith (oneMore h k) ks
 
 -- from any slices
 abbrev pub historyOf : Directory → List DirectoryCall → History
