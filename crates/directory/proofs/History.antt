@@ -20,10 +20,10 @@ use Rattle.set_laws.proofs.Theorems.{fine-after-add, cap-after-add, member-add,
 use Rattle.set_free.specs.Calls.{searchStart, firstFreeOf, LowestFree}
 use Rattle.set_whole.specs.Calls.{openOf}
 use Rattle.set_whole.proofs.Theorems.{opened-by}
-use Rattle.directory.specs.Calls.{Directory, directory, ownerAt, refusalOf, valueOf, unless, isItem, roomRefusal, judgeOf, returnRefusal, directoryOpenOf, giveOf, takeBackOf}
-use Rattle.directory.specs.History.{DirectoryCall, outcomeOf, gave, Figures, ownedBy, accepted, counted, History, oneMore, goOnWith, historyOf, Owns, taken, Kept, NoneGiven, UsedAgain}
+use Rattle.directory.specs.Calls.{Directory, directory, ownerAt, refusalNumber, valueOf, unless, isItem, roomRefusal, itemRefusal, returnRefusal, directoryOpenOf, giveOf, takeBackOf}
+use Rattle.directory.specs.History.{DirectoryCall, outcomeOf, gave, Figures, ownedBy, afterAccepted, figuresAfter, History, oneMore, goOnWith, historyOf, Owns, chunksTaken, InOrder, NoneGiven, UsedAgain}
 use Rattle.directory.specs.History.DirectoryCall.{opening, giving, returning}
-use Rattle.directory.proofs.Answers.{item-in, room-in, Judged, judged, Returned, returned}
+use Rattle.directory.proofs.Answers.{item-in, room-in, ForItem, judged, Returned, returned}
 use Rattle.directory.proofs.Accepted.{by-unless, found-lowest, give-lowest, return-owned, give-keeps}
 
 -- a byte has one owner at most
@@ -91,10 +91,10 @@ module _ {d e : Directory} {c y : ℕ} (k : Changed d e c y) where
       go (no n) = was i (k .others i n .0 m)
 
   -- all but the balance
-  changed-kept : {f : Figures} → Kept (record { now = d; figures = f }) → (o : Bool) (g r : ℕ)
+  changed-in-order : {f : Figures} → InOrder (record { now = d; figures = f }) → (o : Bool) (g r : ℕ)
       → g ≡ r + countBelow (cap (d .store)) (e .store) (cap (d .store))
-      → Kept (record { now = e; figures = record { opened = o; given = g; returned = r; owner = ownedBy (f .owner) c y } })
-  changed-kept {f} was o g r q =
+      → InOrder (record { now = e; figures = record { opened = o; given = g; returned = r; owner = ownedBy (f .owner) c y } })
+  changed-in-order {f} was o g r q =
       let names = k .sound .is .names in
       record {
         sound = own (k .sound);
@@ -109,14 +109,14 @@ module _ {d e : Directory} {c y : ℕ} (k : Changed d e c y) where
 
 -- ---- each call, accepted
 
-module _ (d : Directory) (f : Figures) (was : Kept (record { now = d; figures = f })) where
+module _ (d : Directory) (f : Figures) (was : InOrder (record { now = d; figures = f })) where
   abbrev s : List ℕ
   s = d .store
 
   -- a chunk given: it was no member, and is one
-  given-kept : (x : ℕ) → judgeOf d x ≡ 0 → (c : ℕ) → LowestFree s c
-      → Kept (record { now = directory (addOf s c .lent) (set (d .owners) c x); figures = accepted f (giving x) c })
-  given-kept x j c l = changed-kept changed was (f .opened) (suc (f .given)) (f .returned) (omega (arith, was .balance, more))
+  given-in-order : (x : ℕ) → itemRefusal d x ≡ 0 → (c : ℕ) → LowestFree s c
+      → InOrder (record { now = directory (addOf s c .lent) (set (d .owners) c x); figures = afterAccepted f (giving x) c })
+  given-in-order x j c l = changed-in-order changed was (f .opened) (suc (f .given)) (f .returned) (omega (arith, was .balance, more))
     where
       is : isStore s ≡ true
       is = judged d x j .is
@@ -137,9 +137,9 @@ module _ (d : Directory) (f : Figures) (was : Kept (record { now = d; figures = 
           }
 
   -- a chunk returned: its byte was an item, so it was a member, and is none
-  returned-kept : (x c : ℕ) → Returned d x c
-      → Kept (record { now = directory (removeOf s c .lent) (set (d .owners) c 0); figures = accepted f (returning x c) 0 })
-  returned-kept x c k = changed-kept changed was (f .opened) (f .given) (suc (f .returned)) (omega (arith, was .balance, less))
+  returned-in-order : (x c : ℕ) → Returned d x c
+      → InOrder (record { now = directory (removeOf s c .lent) (set (d .owners) c 0); figures = afterAccepted f (returning x c) 0 })
+  returned-in-order x c k = changed-in-order changed was (f .opened) (f .given) (suc (f .returned)) (omega (arith, was .balance, less))
     where
       is : isStore s ≡ true
       is = k .judged .is
@@ -166,9 +166,9 @@ module _ (d : Directory) (f : Figures) (was : Kept (record { now = d; figures = 
           }
 
 -- an opening: no member, every byte 0, nothing given
-opened-kept : (d : Directory) (f : Figures) (n v : ℕ) → roomRefusal (length (d .store)) (length (d .owners)) n ≡ 0
-    → Kept (record { now = directory (openOf (d .store) n .lent) (replicate n 0); figures = accepted f (opening n) v })
-opened-kept d f n v h =
+opened-in-order : (d : Directory) (f : Figures) (n v : ℕ) → roomRefusal (length (d .store)) (length (d .owners)) n ≡ 0
+    → InOrder (record { now = directory (openOf (d .store) n .lent) (replicate n 0); figures = afterAccepted f (opening n) v })
+opened-in-order d f n v h =
     record {
       sound = own (new .0);
       long = length-replicate n 0 ∙ sym names;
@@ -201,8 +201,8 @@ opened-kept d f n v h =
 -- what a call with outcome o hands on
 abbrev HandsOn : History → DirectoryCall → Outcome Directory → Type 0
 HandsOn h k o =
-    (h .figures .opened ≡ true → Kept h) → counted (h .figures) k o .opened ≡ true
-    → Kept (record { now = o .lent; figures = counted (h .figures) k o })
+    (h .figures .opened ≡ true → InOrder h) → figuresAfter (h .figures) k o .opened ≡ true
+    → InOrder (record { now = o .lent; figures = figuresAfter (h .figures) k o })
 
 refused-hands : (h : History) (k : DirectoryCall) (r : ℕ) → r ≢ 0 → HandsOn h k (refuses r (h .now))
 refused-hands h k r n = rw (ne-eqb r 0 n) (λ p e. p e)
@@ -210,27 +210,27 @@ refused-hands h k r n = rw (ne-eqb r 0 n) (λ p e. p e)
 call-hands : (h : History) (k : DirectoryCall) → HandsOn h k (outcomeOf (h .now) k)
 unfolding directoryOpenOf giveOf takeBackOf
 call-hands h (opening n) =
-    by-unless (HandsOn h (opening n)) _ (h .now) _ (refused-hands h (opening n) _) (λ z p e. opened-kept (h .now) (h .figures) n 0 z)
+    by-unless (HandsOn h (opening n)) _ (h .now) _ (refused-hands h (opening n) _) (λ z p e. opened-in-order (h .now) (h .figures) n 0 z)
 call-hands h (giving x) =
     let d = h .now in
     by-unless (HandsOn h (giving x)) _ d _ (refused-hands h (giving x) _)
     (λ j. by-unless (HandsOn h (giving x)) _ d _ (refused-hands h (giving x) _)
-    (λ z p e. given-kept d (h .figures) (p e) x j (valueOf (firstFreeOf (d .store))) (found-lowest (d .store) (judged d x j .is) z)))
+    (λ z p e. given-in-order d (h .figures) (p e) x j (valueOf (firstFreeOf (d .store))) (found-lowest (d .store) (judged d x j .is) z)))
 call-hands h (returning x c) =
     by-unless (HandsOn h (returning x c)) _ (h .now) _ (refused-hands h (returning x c) _)
-    (λ z p e. returned-kept (h .now) (h .figures) (p e) x c (returned (h .now) x c z))
+    (λ z p e. returned-in-order (h .now) (h .figures) (p e) x c (returned (h .now) x c z))
 
 -- ---- ANY CALLS
 
-calls-hand : (h : History) (ks : List DirectoryCall) → (h .figures .opened ≡ true → Kept h)
-    → goOnWith h ks .figures .opened ≡ true → Kept (goOnWith h ks)
+calls-hand : (h : History) (ks : List DirectoryCall) → (h .figures .opened ≡ true → InOrder h)
+    → goOnWith h ks .figures .opened ≡ true → InOrder (goOnWith h ks)
 calls-hand h [] p e = p e
 calls-hand h (k ∷ ks) p e = calls-hand (oneMore h k) ks (call-hands h k p) e
 
 -- OVER ANY LIST OF CALLS, from any slices: once an opening was accepted, given less returned is the number of members, each member has one
 -- owner, every other byte is 0, and the store is sound
-pub kept : (d : Directory) (ks : List DirectoryCall) → historyOf d ks .figures .opened ≡ true → Kept (historyOf d ks)
-kept d ks e = calls-hand _ ks (λ z. absurd (true≢false (sym z))) e
+pub in-order : (d : Directory) (ks : List DirectoryCall) → historyOf d ks .figures .opened ≡ true → InOrder (historyOf d ks)
+in-order d ks e = calls-hand _ ks (λ z. absurd (true≢false (sym z))) e
 
 -- ---- "so returned chunks are used again"
 
@@ -250,21 +250,21 @@ stays-free c h (k ∷ ks) n free = stays-free c (oneMore h k) ks (n .1) (one k (
         (λ z. opened-by (h .now .store) m (room-in (length (h .now .store)) (length (h .now .owners)) m z .0) .1 c)
     one (giving x) g =
         subst (λ (d : Directory). Member (d .store) c → ⊥)
-        (sym (give-keeps (h .now) x (λ z. true≢false (sym (eq-eqb (refusalOf (giveOf (h .now) x)) 0 z) ∙ g)))) free
+        (sym (give-keeps (h .now) x (λ z. true≢false (sym (eq-eqb (refusalNumber (giveOf (h .now) x)) 0 z) ∙ g)))) free
     one (returning x i) g =
         by-unless FreeIn _ (h .now) _ (λ r. free)
         (λ z m. free (member-remove (h .now .store) i c (returned (h .now) x i z .judged .is) .0 m .1))
 
 -- a chunk returned is no member
-returned-free : (d : Directory) (x c : ℕ) → refusalOf (takeBackOf d x c) ≡ 0 → Member (takeBackOf d x c .lent .store) c → ⊥
+returned-free : (d : Directory) (x c : ℕ) → refusalNumber (takeBackOf d x c) ≡ 0 → Member (takeBackOf d x c .lent .store) c → ⊥
 unfolding takeBackOf
 returned-free d x c =
-    by-unless (λ o. refusalOf o ≡ 0 → Member (o .lent .store) c → ⊥) _ d _ (λ r q. absurd (r q))
+    by-unless (λ o. refusalNumber o ≡ 0 → Member (o .lent .store) c → ⊥) _ d _ (λ r q. absurd (r q))
     (λ r q m. member-remove (d .store) c c (returned d x c r .judged .is) .0 m .0 refl)
 
 -- AFTER AN ACCEPTED RETURN of c, once an opening was accepted, the next chunk given is c or a lower one
 pub used-again : (d : Directory) (ks : List DirectoryCall) → historyOf d ks .figures .opened ≡ true
-    → (x c : ℕ) → let e = historyOf d ks .now in refusalOf (takeBackOf e x c) ≡ 0 → UsedAgain (takeBackOf e x c .lent) c
+    → (x c : ℕ) → let e = historyOf d ks .now in refusalNumber (takeBackOf e x c) ≡ 0 → UsedAgain (takeBackOf e x c .lent) c
 used-again d ks o x c z js y n g = go (decLt c (valueOf (giveOf u y)))
   where
     e : Directory
@@ -276,8 +276,8 @@ used-again d ks o x c z js y n g = go (decLt c (valueOf (giveOf u y)))
     k : Returned e x c
     k = return-owned e x c z
 
-    h : Kept (historyOf d ks)
-    h = kept d ks o
+    h : InOrder (historyOf d ks)
+    h = in-order d ks o
 
     start : searchStart ≤ c
     start = h .from c (h .owned c .1 (x, record { item = k .judged .item; byte = k .byte }))
