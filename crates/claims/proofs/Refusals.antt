@@ -10,7 +10,7 @@ use lib.Dec.{leb, ltb, eqb}
 use lib.ListN.{length, getD}
 use denote.Ref.{now}
 use Rattle.util.proofs.Same.{both}
-use Rattle.store.specs.Answer.{askedPaper, didPaper, foundPaper, readPaper, refuses}
+use Rattle.store.specs.Answer.{askedPaper, didPaper, foundPaper, readPaper}
 use Rattle.store.specs.Layout.{top, isCap, storeLen, cap, isStore}
 use Rattle.store.specs.declared.Asked.the-variants.{Refused as AskedRefused}
 use Rattle.store.specs.declared.Did.{Did}

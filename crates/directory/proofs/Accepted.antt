@@ -1,5 +1,5 @@
 -- An accepted call, taken apart: what stood in no way of it, and what it does.
-use mathlib.Core.Bool.{Bool, true, false, cond, true≢false}
+use mathlib.Core.Bool.{true}
 use mathlib.Core.List.{List}
 use mathlib.Core.Logic.{_≢_, ⊎-elim}
 use mathlib.Core.Path.{_≡_, refl, sym, ap, _∙_, subst}
@@ -7,8 +7,6 @@ use Prim.Native.Nat.{ℕ}
 use native.Mathlib.Decide.{ℕ-discrete}
 use native.Mathlib.Omega.{arith}
 use borrow.Author.Tests.{eq-eqb, ne-eqb}
-use lib.Dec.{eqb}
-use lib.ListN.{length}
 use Rattle.util.specs.Outcome.{Outcome}
 use Rattle.store.specs.Answer.{gives, refuses}
 use Rattle.store.specs.Layout.{isStore}

@@ -1,6 +1,6 @@
 -- What each way out of the code answers is what the definition answers there.
 use mathlib.Core.Bool.{Bool, true, false, cond, _&&_, true≢false}
-use mathlib.Core.List.{List, []}
+use mathlib.Core.List.{List}
 use mathlib.Core.Logic.{_≢_, ⊎-elim}
 use mathlib.Core.Path.{_≡_, refl, sym, ap, ap₂, _∙_}
 use Prim.Native.Nat.{ℕ, _≤_, _<_}
@@ -10,7 +10,7 @@ use lib.Dec.{leb, ltb, eqb}
 use lib.ListN.{length, getD, set, replicate}
 use Rattle.util.specs.Outcome.{Outcome, Settled, settled}
 use Rattle.util.proofs.Same.{both}
-use Rattle.store.specs.Answer.{didPaper, foundPaper, gives, does, refuses}
+use Rattle.store.specs.Answer.{didPaper, foundPaper, gives, does}
 use Rattle.store.specs.Layout.{cap, isStore}
 use Rattle.store.specs.declared.Did.the-variants.{Done, Refused as DidRefused}
 use Rattle.store.specs.declared.Found.the-variants.{At, Refused as FoundRefused}
@@ -19,7 +19,7 @@ use Rattle.set_edit.specs.Calls.{addOf, removeOf}
 use Rattle.set_free.specs.Calls.{firstFreeOf, LowestFree}
 use Rattle.set_free.proofs.Lowest.{free-told, free-found}
 use Rattle.set_whole.specs.Calls.{openRefusal, openOf}
-use Rattle.directory.specs.Calls.{Directory, directory, ownerAt, refusalNumber, valueOf, isItem, roomRefusal, itemRefusal, returnRefusal, directoryOpenOf, giveOf, takeBackOf}
+use Rattle.directory.specs.Calls.{Directory, directory, ownerAt, refusalNumber, isItem, roomRefusal, itemRefusal, returnRefusal, directoryOpenOf, giveOf, takeBackOf}
 
 -- ---- items
 

@@ -1,5 +1,5 @@
 -- OVER ANY CALLS: what holds of a directory once an opening was accepted.
-use mathlib.Core.Bool.{Bool, true, false, cond, true≢false}
+use mathlib.Core.Bool.{Bool, true, false, true≢false}
 use mathlib.Core.List.{List, [], _∷_}
 use mathlib.Core.Logic.{_≢_, _↔_, inl, inr, ⊎-elim}
 use mathlib.Core.Path.{_≡_, refl, sym, ap, _∙_, subst}
@@ -7,7 +7,6 @@ use Prim.Native.Nat.{ℕ, suc, _+_, _≤_, _<_}
 use native.Mathlib.Decide.{decLt, ℕ-discrete}
 use native.Mathlib.Omega.{arith}
 use borrow.Author.Tests.{eq-eqb, ne-eqb}
-use lib.Dec.{eqb}
 use lib.ListN.{length, getD, set, replicate, length-set, length-replicate, getD-replicate, List·getD-eq-default}
 use lib.Seq.{getD-set-same, getD-set-other}
 use Rattle.util.specs.Outcome.{Outcome}
@@ -16,14 +15,14 @@ use Rattle.store.specs.Layout.{cap, isStore}
 use Rattle.store.specs.Word.{Member, countBelow, SoundStore}
 use Rattle.store.proofs.Members.{own}
 use Rattle.set_edit.specs.Calls.{addOf, removeOf}
-use Rattle.set_laws.proofs.Theorems.{fine-after-add, cap-after-add, member-add, count-add, fine-after-remove, cap-after-remove, member-remove, count-remove}
+use Rattle.set_laws.proofs.Theorems.{fine-after-add, member-add, count-add, fine-after-remove, member-remove, count-remove}
 use Rattle.set_free.specs.Calls.{searchStart, firstFreeOf, LowestFree}
 use Rattle.set_whole.specs.Calls.{openOf}
 use Rattle.set_whole.proofs.Theorems.{opened-by}
-use Rattle.directory.specs.Calls.{Directory, directory, ownerAt, refusalNumber, valueOf, unless, isItem, roomRefusal, itemRefusal, returnRefusal, directoryOpenOf, giveOf, takeBackOf}
-use Rattle.directory.specs.History.{DirectoryCall, outcomeOf, gave, Figures, ownedBy, afterAccepted, figuresAfter, History, oneMore, goOnWith, historyOf, Owns, chunksTaken, InOrder, NoneGiven, UsedAgain}
+use Rattle.directory.specs.Calls.{Directory, directory, ownerAt, refusalNumber, valueOf, isItem, roomRefusal, itemRefusal, directoryOpenOf, giveOf, takeBackOf}
+use Rattle.directory.specs.History.{DirectoryCall, outcomeOf, gave, Figures, ownedBy, afterAccepted, figuresAfter, History, oneMore, goOnWith, historyOf, Owns, InOrder, NoneGiven, UsedAgain}
 use Rattle.directory.specs.History.DirectoryCall.{opening, giving, returning}
-use Rattle.directory.proofs.Answers.{item-in, room-in, ForItem, judged, Returned, returned}
+use Rattle.directory.proofs.Answers.{item-in, room-in, judged, Returned, returned}
 use Rattle.directory.proofs.Accepted.{by-unless, found-lowest, give-lowest, return-owned, give-keeps}
 
 -- a byte has one owner at most

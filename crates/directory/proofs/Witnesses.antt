@@ -1,14 +1,12 @@
 -- NO CLAIM IS EMPTY: slices of the right lengths are opened, and then a chunk is given and returned.
-use mathlib.Core.Bool.{Bool, true}
+use mathlib.Core.Bool.{true}
 use mathlib.Core.List.{[], _∷_}
 use mathlib.Core.Logic.{⊎-elim}
-use mathlib.Core.Path.{_≡_, refl, sym, ap, _∙_, subst}
-use Prim.Native.Nat.{ℕ, _≤_, _<_}
+use mathlib.Core.Path.{_≡_, refl, sym, ap, _∙_}
+use Prim.Native.Nat.{ℕ, _<_}
 use native.Mathlib.Omega.{arith}
 use borrow.Author.Tests.{eq-eqb}
-use lib.Dec.{eqb}
 use lib.ListN.{length}
-use Rattle.util.specs.Outcome.{Outcome}
 use Rattle.store.specs.Answer.{gives, refuses}
 use Rattle.store.specs.Layout.{cap}
 use Rattle.store.specs.Word.{Member}
@@ -16,7 +14,7 @@ use Rattle.store.proofs.Geometry.{is-store}
 use Rattle.set_free.specs.Calls.{searchStart, firstFreeOf}
 use Rattle.set_free.proofs.Lowest.{free-told, free-none}
 use Rattle.set_whole.proofs.Theorems.{opened-by}
-use Rattle.directory.specs.Calls.{Directory, ownerAt, refusalNumber, valueOf, isItem, roomRefusal, itemRefusal, returnRefusal, directoryOpenOf, giveOf, takeBackOf}
+use Rattle.directory.specs.Calls.{Directory, ownerAt, refusalNumber, valueOf, isItem, roomRefusal, itemRefusal, directoryOpenOf, giveOf, takeBackOf}
 use Rattle.directory.specs.History.{historyOf, InOrder}
 use Rattle.directory.specs.History.DirectoryCall.{opening, giving}
 use Rattle.directory.proofs.Answers.{room-in, judge-0, return-0}

@@ -6,7 +6,6 @@ ghost use lib.ListN.{length, replicate, set};
 ghost use Rattle.util.specs.Outcome.{Settled};
 ghost use Rattle.store.specs.Answer.{didPaper, foundPaper};
 ghost use Rattle.set_edit.specs.Calls.{addOf, removeOf};
-ghost use Rattle.set_whole.specs.Calls.{openOf};
 ghost use Rattle.directory.specs.Calls.{directory, isItem, itemRefusal, roomRefusal, returnRefusal, directoryOpenOf, giveOf, takeBackOf};
 use store::Did;
 use store::Found;

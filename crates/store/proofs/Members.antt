@@ -10,7 +10,7 @@ use lib.Seq.{ext-getD}
 use Rattle.util.specs.Word.{Rising}
 use Rattle.util.proofs.Bits.{word-ext}
 use Rattle.util.proofs.Places.{some-bit, places-none, places-in, in-places, places-rising}
-use Rattle.store.specs.Layout.{header, top, room, storeLen, cap, StoreOf}
+use Rattle.store.specs.Layout.{header, top, room, storeLen, cap}
 use Rattle.store.specs.Word.{word, on, anc, Member, members, countBelow, Sound, Words64, SoundStore}
 use Rattle.store.proofs.Geometry.{spot-in}
 use Rattle.store.proofs.Words.{word-in, word-lt, on-lt, on-word, bit-place}

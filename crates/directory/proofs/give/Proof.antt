@@ -5,7 +5,7 @@ use borrow.Author.Needs.{needs}
 use Rattle.util.specs.Outcome.{Settled}
 use Rattle.store.specs.Answer.{foundPaper}
 use Rattle.store.specs.declared.Found.{Found}
-use Rattle.store.specs.declared.Found.the-variants.{At, Refused}
+use Rattle.store.specs.declared.Found.the-variants.{At}
 use Rattle.set_free.specs.Calls.{firstFreeOf}
 use Rattle.directory.specs.Calls.{directory, itemRefusal}
 use Rattle.directory.proofs.Answers.{judged, item-in, found-byte, give-refused, give-done, give-full}

@@ -1,5 +1,5 @@
 -- `open` meets its contract. Assumes nothing.
-use mathlib.Core.Path.{_≡_, sym, _∙_}
+use mathlib.Core.Path.{sym, _∙_}
 use borrow.Author.Needs.{needs}
 use Rattle.directory.proofs.Answers.{directory-refused, directory-done}
 use Rattle.directory.proofs.open.Statement.{statement}
