@@ -1,11 +1,11 @@
-//! A program with no heap and no standard library: the chunks of a container in an array, taken, walked by a budget and written as a map. It
-//! ends with 0, or with the number of the first thing that is not so.
+//! A program with no heap and no standard library: the chunks of a container in an array, taken, walked by a budget, written as a map and
+//! given to items. It ends with 0, or with the number of the first thing that is not so.
 #![no_std]
 #![no_main]
 
 use core::panic::PanicInfo;
 
-use fendruscla::{map_capacity, words_for, BitSetAll, BitSetLike, Cursor, Refusal, Step, Store, View};
+use fendruscla::{map_capacity, words_for, BitSetAll, BitSetLike, Cursor, Directory, Refusal, Step, Store, View};
 
 const CHUNKS: u32 = 1_000;
 const WORDS: usize = words_for(CHUNKS);
@@ -46,7 +46,12 @@ fn run() -> Result<i32, Refusal> {
     let read = preview == taken;
     preview.try_bitxor_assign(&(&taken & BitSetAll))?;
     let empty = preview.is_empty() && View::over(&others)?.first_free() == Ok(0);
-    Ok(first_wrong(&[refused, joined, paused, member, written, read, empty, BitSetAll.contains(3)]))
+
+    let mut directory = Directory::open([0; WORDS], [0; CHUNKS as usize], CHUNKS)?;
+    let given = [directory.give(1)?, directory.give(2)?] == [0, 1];
+    directory.take_back(1, 0)?;
+    let owned = directory.owner(1) == Some(2) && directory.store().try_iter()?.eq([1]);
+    Ok(first_wrong(&[refused, joined, paused, member, written, read, empty, BitSetAll.contains(3), given, owned]))
 }
 
 /// What the C library calls.

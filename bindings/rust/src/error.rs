@@ -43,13 +43,34 @@ pub enum Refusal {
     BadCount = 11,
     /// Every id below the capacity is a member.
     NoneFree = 12,
+    /// The owner bytes are not as many as the capacity.
+    BadOwners = 13,
+    /// The item's number is 0 or above 200.
+    NoItem = 14,
+    /// The chunk is at or past the capacity, or its owner is not the item.
+    NotOwner = 15,
 }
 
 use Refusal::*;
 
 /// All refusals, in the order of their numbers.
-const ALL: [Refusal; 12] =
-    [NoCapacity, NoStore, NoRoom, NoLayer, Differ, NoFormula, NoCursor, ShortBuffer, NoMap, BadEntry, BadCount, NoneFree];
+const ALL: [Refusal; 15] = [
+    NoCapacity,
+    NoStore,
+    NoRoom,
+    NoLayer,
+    Differ,
+    NoFormula,
+    NoCursor,
+    ShortBuffer,
+    NoMap,
+    BadEntry,
+    BadCount,
+    NoneFree,
+    BadOwners,
+    NoItem,
+    NotOwner,
+];
 
 impl Refusal {
     /// The refusal's number, from 1.
@@ -94,6 +115,9 @@ impl Refusal {
             BadEntry => "an entry of the map is wrong",
             BadCount => "the map's count of members is wrong",
             NoneFree => "no id is free",
+            BadOwners => "the owner bytes are not as many as the capacity",
+            NoItem => "the item is 0 or above 200",
+            NotOwner => "the item does not own the chunk",
         }
     }
 }

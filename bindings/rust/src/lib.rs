@@ -41,6 +41,7 @@ extern crate alloc;
 #[cfg(feature = "alloc")]
 mod bitset;
 mod cursor;
+mod directory;
 mod error;
 mod ffi;
 mod formula;
@@ -59,6 +60,7 @@ pub mod util;
 mod words;
 
 pub use cursor::{Batch, Cursor, Step};
+pub use directory::Directory;
 pub use error::Refusal;
 pub use formula::Formula;
 pub use iter::BitIter;
@@ -73,7 +75,7 @@ pub use words::{words_for, Words, MAX_CAPACITY};
 /// The archive's version: 100 * 100 * major + 100 * minor + patch.
 ///
 /// ```
-/// assert_eq!(fendruscla::version(), 100);
+/// assert_eq!(fendruscla::version(), 200);
 /// ```
 pub fn version() -> u64 {
     ffi::version()

@@ -20,7 +20,7 @@ fn versions() {
 
 #[test]
 fn names_and_numbers_of_refusals() {
-    for number in 1..=12 {
+    for number in 1..=15 {
         let name = format!("{:?}", Refusal::from_number(number).unwrap());
         let upper: String =
             name.chars().flat_map(|c| [c.is_uppercase().then_some('_'), Some(c.to_ascii_uppercase())]).flatten().collect();
@@ -40,7 +40,7 @@ fn codes_of_formulas() {
 fn texts_of_refusals() {
     let texts = between(HEADER, "texts[] = {", "};").next().unwrap();
     let texts: Vec<&str> = between(texts, "        \"", "\",\n").collect();
-    assert_eq!(texts.len(), 13);
+    assert_eq!(texts.len(), 16);
     for (number, text) in texts.into_iter().enumerate().skip(1) {
         let refusal = Refusal::from_number(number as u64).unwrap();
         assert_eq!(refusal.to_string(), format!("refusal {number}: {text}"));
@@ -52,7 +52,7 @@ fn every_function_is_declared() {
     let declared = concat!(include_str!("../src/ffi/raw.rs"), include_str!("../src/ffi/formula.rs"));
     let own = HEADER.lines().filter(|line| line.starts_with("fen_") || line.starts_with("uint64_t fen_"));
     let names: Vec<&str> = own.filter_map(|line| between(line, " ", "(").next()).collect();
-    assert_eq!(names.len(), 34);
+    assert_eq!(names.len(), 37);
     for name in names {
         assert!(declared.contains(&format!("fn {name}(")), "{name}");
     }

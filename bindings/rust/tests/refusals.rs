@@ -6,7 +6,7 @@ use std::collections::BTreeSet;
 use std::error::Error;
 
 use common::set_of;
-use fendruscla::{words_for, BitSet, BitSetAll, BitSetLike, BitSetNot, BitSetOr, Cursor, Refusal, Set, Store, View};
+use fendruscla::{words_for, BitSet, BitSetAll, BitSetLike, BitSetNot, BitSetOr, Cursor, Directory, Refusal, Set, Store, View};
 
 /// A set of capacity 65 that holds 0 and 64.
 fn two() -> BitSet {
@@ -24,13 +24,13 @@ fn boxed<'a>(set: impl BitSetLike + 'a) -> Box<dyn BitSetLike + 'a> {
 
 #[test]
 fn numbers_and_texts() {
-    for number in 1..=12 {
+    for number in 1..=15 {
         let refusal = Refusal::from_number(number).unwrap();
         assert_eq!(u64::from(refusal.number()), number);
         assert!(refusal.to_string().starts_with(&format!("refusal {number}: ")));
     }
     assert_eq!(Refusal::from_number(0), None);
-    assert_eq!(Refusal::from_number(13), None);
+    assert_eq!(Refusal::from_number(16), None);
     let error: Box<dyn Error> = Refusal::NoneFree.into();
     assert_eq!(error.to_string(), "refusal 12: no id is free");
 }
@@ -159,4 +159,33 @@ fn refusal_12_of_a_full_set() {
     assert_eq!(set.first_free(), Ok(2));
     set.add(2);
     assert_eq!(set.first_free(), Err(Refusal::NoneFree));
+}
+
+#[test]
+fn refusals_of_a_directory_in_their_order() {
+    // what is asked after a refusal is wrong too
+    let opened = |len: usize, count: usize, n: u32| {
+        let (mut words, mut owners) = (vec![7; len], vec![7; count]);
+        let number = Directory::open(&mut words[..], &mut owners[..], n).unwrap_err().number();
+        assert!(words.iter().all(|&word| word == 7) && owners.iter().all(|&owner| owner == 7));
+        number
+    };
+    assert_eq!([opened(1, 1, 0), opened(1, 1, 16_777_217), opened(1, 1, u32::MAX)], [1; 3]);
+    assert_eq!([opened(4, 3, 4), opened(5, 4, 65)], [2; 2]);
+    assert_eq!([opened(5, 3, 4), opened(5, 5, 4), opened(5, 0, 4)], [13; 3]);
+    assert_eq!(Directory::over(&[64, 0][..], &[][..]).unwrap_err().number(), 2);
+    assert_eq!(Directory::over(&fixed().into_words(), &[0; 64]).unwrap_err().number(), 13);
+    assert_eq!([0, 16_777_217, u32::MAX].map(|n| Directory::new(n).unwrap_err().number()), [1; 3]);
+
+    let mut directory = Directory::new(4).unwrap();
+    assert_eq!([1, 200, 2, 1].map(|item| directory.give(item)), [0, 1, 2, 3].map(Ok));
+    let full = directory.clone();
+    assert_eq!([0, 201, 257, u32::MAX].map(|item| directory.give(item).unwrap_err().number()), [14; 4]);
+    assert_eq!([1, 200].map(|item| directory.give(item).unwrap_err().number()), [12; 2]);
+    assert_eq!([0, 201, 257].map(|item| directory.take_back(item, 4).unwrap_err().number()), [14; 3]);
+    assert_eq!(
+        [(2, 1), (1, 4), (1, u32::MAX)].map(|(item, chunk)| directory.take_back(item, chunk).unwrap_err().number()),
+        [15; 3]
+    );
+    assert_eq!(directory, full);
 }

@@ -85,6 +85,16 @@ macro_rules! merges {
     )*};
 }
 
+/// Safe functions over a directory: a store and its owner bytes, both written to.
+macro_rules! directories {
+    ($($name:ident = $call:ident($($more:ident: $kind:ty),*);)*) => {$(
+        pub fn $name(store: &mut [u64], owners: &mut [u8], $($more: $kind),*) -> Result<u64, Refusal> {
+            // SAFETY: both slices are lent whole and by `&mut`, so they do not overlap.
+            answered(unsafe { raw::$call(store.as_mut_ptr(), store.len(), owners.as_mut_ptr(), owners.len(), $($more),*) })
+        }
+    )*};
+}
+
 /// Safe functions that say where a layer stands.
 macro_rules! layers {
     ($($name:ident = $call:ident;)*) => {$(
@@ -122,6 +132,12 @@ merges! {
     bitor_assign = fen_bitor_assign;
     bitand_assign = fen_bitand_assign;
     bitxor_assign = fen_bitxor_assign;
+}
+
+directories! {
+    directory_open = fen_directory_open(n: u32);
+    directory_give = fen_directory_give(item: u32);
+    directory_return = fen_directory_return(item: u32, chunk: u32);
 }
 
 layers! {

@@ -59,4 +59,8 @@ extern "C" {
     pub fn fen_map_length(store: *const u64, len: usize) -> Answer;
     pub fn fen_map_read(map: *const u8, length: usize, store: *mut u64, len: usize) -> Answer;
     pub fn fen_map_capacity(map: *const u8, length: usize) -> Answer;
+
+    pub fn fen_directory_open(store: *mut u64, len: usize, owners: *mut u8, count: usize, n: u32) -> Answer;
+    pub fn fen_directory_give(store: *mut u64, len: usize, owners: *mut u8, count: usize, item: u32) -> Answer;
+    pub fn fen_directory_return(store: *mut u64, len: usize, owners: *mut u8, count: usize, item: u32, chunk: u32) -> Answer;
 }
