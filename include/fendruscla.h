@@ -253,7 +253,8 @@ fen_answer fen_map_capacity(const uint8_t *map, size_t length);
  * reads a store may read this one in between, so it can be walked.
  *
  * Where store and bytes disagree: giving goes by the store alone and writes over the byte, whatever it was; a return whose byte is right goes
- * through, also of a chunk that is no member; a member whose byte is 0 cannot be returned. */
+ * through, also of a chunk that is no member; a member whose byte is 0 cannot be returned. On an unsound store giving and returning do the
+ * steps of fen_add and fen_remove. */
 
 /* Makes `len` words an empty store of capacity n, and all bytes 0. Refusals 1, 2, 13. */
 fen_answer fen_directory_open(uint64_t *store, size_t len, uint8_t *owners, size_t count, uint32_t n);
