@@ -1,32 +1,42 @@
 -- WHATEVER A CALL LEAVES of stores that our calls reached is reached, and of sound stores is sound: over every public call.
-use mathlib.Core.Bool.{Bool, true, false, cond, _&&_}
+use mathlib.Core.Bool.{Bool, true, false, cond}
 use mathlib.Core.List.{List, [], _∷_}
 use mathlib.Core.Path.{_≡_, refl, sym, subst}
 use Prim.Native.Nat.{ℕ, _≤_}
 use borrow.Author.Tests.{eqb-true}
 use lib.Dec.{eqb}
-use lib.ListN.{length}
+use lib.ListN.{length, replicate}
+use Rattle.util.specs.Outcome.{Outcome}
 use Rattle.store.specs.Answer.{does, refuses}
-use Rattle.store.specs.Build.{empty}
-use Rattle.store.specs.Layout.{maxCap, isCap, storeLen, cap}
+use Rattle.store.specs.Layout.{maxCap, storeLen, cap}
 use Rattle.store.specs.Word.{SoundStore}
 use Rattle.store.specs.declared.Did.{Did}
 use Rattle.store.proofs.Ends.{cap-in}
-use Rattle.set_whole.specs.Calls.{openOf}
+use Rattle.set_whole.specs.Calls.{openRefusal, openOf}
+use Rattle.set_whole.proofs.Answers.{can-open}
+use Rattle.set_free.specs.Calls.{firstFreeOf}
 use Rattle.ops_merge.specs.Calls.{Assigned}
+use Rattle.directory.specs.Calls.{Directory, directory, refusalNumber, valueOf, roomRefusal, itemRefusal, returnRefusal, directoryOpenOf, giveOf, takeBackOf}
+use Rattle.directory.proofs.Answers.{room-in}
 use Rattle.claims.specs.Calls.{Answered, Memory, Meets, Call, promiseOf}
-use Rattle.claims.specs.Calls.Call.{«open», add, remove, contains, addList, isEmpty, clear, containsSet, equal, getFromLayer, layerAsSlice, averageOnes, firstFree, isSound, rebuild, bitorAssign, bitandAssign, bitxorAssign, start, next, fill, containsF, isEmptyF, getFromLayerF, startF, nextF, fillF, write, read, mapLength, mapCapacity, iterR, nextR, firstR}
+use Rattle.claims.specs.Calls.Call.{«open», add, remove, contains, addList, isEmpty, clear, containsSet, equal, getFromLayer, layerAsSlice, averageOnes, firstFree, isSound, rebuild, bitorAssign, bitandAssign, bitxorAssign, start, next, fill, containsF, isEmptyF, getFromLayerF, startF, nextF, fillF, write, read, mapLength, mapCapacity, openDirectory, give, takeBack, iterR, nextR, firstR}
 use Rattle.claims.specs.Reached.{OneCall, Reached}
 use Rattle.claims.specs.Reached.OneCall.{adds, removes, lists, clears, rebuilds, merges, reads}
 use Rattle.claims.specs.Reached.Reached.{opened, after}
-use Rattle.claims.specs.Stores.{Each, ofOwn, opens, lentTo, leftBy}
-use Rattle.claims.proofs.Histories.{open-empties, fine-open, fine-one, reached-fine}
+use Rattle.claims.specs.Stores.{Each, ofOwn, opens, opensBoth, lentTo, leftBy}
+use Rattle.claims.proofs.Stays.{by-cond}
+use Rattle.claims.proofs.Histories.{fine-open, fine-one, reached-fine}
 
 -- what is had by every opened store, is handed on by one call, and is sound
 record Inherited (P : ℕ → List ℕ → Type 0) : Type 0 where
   opened-has : {N : ℕ} (s : List ℕ) → 1 ≤ N → N ≤ maxCap → length s ≡ storeLen N → P N (openOf s N .lent)
   handed-on : {N : ℕ} {s u : List ℕ} → P N s → OneCall N s u → P N u
   is-sound : {N : ℕ} {s : List ℕ} → P N s → SoundStore N s
+
+-- an opening that is refused leaves what was there
+open-keeps : (s : List ℕ) (n : ℕ) → opens s n ≡ false → openOf s n .lent ≡ s
+unfolding openOf
+open-keeps s n h = rw h
 
 module _ {P : ℕ → List ℕ → Type 0} (k : Inherited P) where
   one-left : {N : ℕ} {s u y : List ℕ} → y ≡ u → P N s → OneCall N s u → P N y × Unit {0}
@@ -35,22 +45,47 @@ module _ {P : ℕ → List ℕ → Type 0} (k : Inherited P) where
   merge-left : {N M op : ℕ} {s t u : List ℕ} {r : Did} → Assigned op s t r u → P N s → P M t → P N u × Unit {0}
   merge-left v p q = (k .handed-on p (merges (k .is-sound q) _ v), tt)
 
+  -- an opening that goes through leaves a new store
+  new-left : (s : List ℕ) (n : ℕ) → openRefusal n (length s) ≡ 0 → P n (openOf s n .lent)
+  new-left s n h = let c = can-open n (length s) h in let room = cap-in n (c .0) in k .opened-has s (room .0) (room .1) (c .1)
+
   -- open leaves a new store where it goes through, and what was there where it refuses
   open-left : (s : List ℕ) (n : ℕ) {y : List ℕ} → y ≡ openOf s n .lent → Each P (lentTo («open» s n)) → Each P (leftBy («open» s n) y)
-  unfolding openOf
-  open-left s n q e = (subst (P (cond (opens s n) n (cap s))) (sym q) (go (isCap n) refl (eqb (length s) (storeLen n)) refl e), tt)
+  open-left s n q e = (subst (P (cond (opens s n) n (cap s))) (sym q) (go (opens s n) refl e), tt)
     where
-      new : isCap n ≡ true → eqb (length s) (storeLen n) ≡ true → P n (empty n)
-      new a b =
-          let room = cap-in n a in
-          let long = eqb-true (length s) (storeLen n) b in
-          subst (P n) (open-empties s (room .0) (room .1) long) (k .opened-has s (room .0) (room .1) long)
+      go : (a : Bool) → opens s n ≡ a → Each P (cond a [] (ofOwn s ∷ [])) → P (cond a n (cap s)) (openOf s n .lent)
+      go true a e = new-left s n (eqb-true _ 0 a)
+      go false a e = subst (P (cap s)) (sym (open-keeps s n a)) (e .0)
 
-      go : (a : Bool) → isCap n ≡ a → (b : Bool) → eqb (length s) (storeLen n) ≡ b → Each P (cond (a && b) [] (ofOwn s ∷ []))
-          → P (cond (a && b) n (cap s)) (cond a (cond b (does (empty n)) (refuses 2 s)) (refuses 1 s) .lent)
-      go true a true b e = new a b
-      go true a false b e = e .0
-      go false a b c e = e .0
+  -- so does the directory's opening; giving adds an id, and taking back removes one
+  directory-left : (d : Directory) (n : ℕ) {y : Directory} → y ≡ directoryOpenOf d n .lent → Each P (lentTo (openDirectory d n))
+      → Each P (leftBy (openDirectory d n) y)
+  unfolding directoryOpenOf
+  directory-left d n q e = (subst (λ (z : Directory). P (cond (opensBoth d n) n (cap (d .store))) (z .store)) (sym q) (go (opensBoth d n) refl e), tt)
+    where
+      go : (a : Bool) → opensBoth d n ≡ a → Each P (cond a [] (ofOwn (d .store) ∷ []))
+          → P (cond a n (cap (d .store))) (cond a (does (directory (openOf (d .store) n .lent) (replicate n 0))) (refuses (roomRefusal (length (d .store)) (length (d .owners)) n) d) .lent .store)
+      go true a e = new-left (d .store) n (room-in (length (d .store)) (length (d .owners)) n (eqb-true _ 0 a) .0)
+      go false a e = e .0
+
+  give-left : (d : Directory) (x : ℕ) {y : Directory} → y ≡ giveOf d x .lent → P (cap (d .store)) (d .store) → P (cap (d .store)) (y .store) × Unit {0}
+  unfolding giveOf
+  give-left d x q p =
+      (subst (λ (z : Directory). P (cap (d .store)) (z .store)) (sym q) (by-cond Q (eqb (itemRefusal d x) 0) (by-cond Q (eqb (refusalNumber f) 0) (k .handed-on p (adds (valueOf f))) p) p), tt)
+    where
+      f : Outcome (Unit {0})
+      f = firstFreeOf (d .store)
+
+      Q : Outcome Directory → Type 0
+      Q o = P (cap (d .store)) (o .lent .store)
+
+  take-left : (d : Directory) (x i : ℕ) {y : Directory} → y ≡ takeBackOf d x i .lent → P (cap (d .store)) (d .store) → P (cap (d .store)) (y .store) × Unit {0}
+  unfolding takeBackOf
+  take-left d x i q p =
+      (subst (λ (z : Directory). P (cap (d .store)) (z .store)) (sym q) (by-cond Q (eqb (returnRefusal d x i) 0) (k .handed-on p (removes i)) p), tt)
+    where
+      Q : Outcome Directory → Type 0
+      Q o = P (cap (d .store)) (o .lent .store)
 
   -- every call hands it on
   calls-leave : (c : Call) (r : Answered (promiseOf c)) (y : Memory (promiseOf c)) → Meets (promiseOf c) r y
@@ -86,6 +121,9 @@ module _ {P : ℕ → List ℕ → Type 0} (k : Inherited P) where
   calls-leave (read bs s) r y m e = one-left (m .memory) (e .0) (reads bs)
   calls-leave (mapLength s) r y m e = tt
   calls-leave (mapCapacity bs) r y m e = tt
+  calls-leave (openDirectory d n) r y m e = directory-left d n (m .memory) e
+  calls-leave (give d x) r y m e = give-left d x (m .memory) (e .0)
+  calls-leave (takeBack d x i) r y m e = take-left d x i (m .memory) (e .0)
   calls-leave (iterR v) r y m e = tt
   calls-leave (nextR it b) r y m e = tt
   calls-leave (firstR s b) r y m e = tt

@@ -51,8 +51,12 @@ use Rattle.map_write.proofs.write.Reads.{Asked as write-asks, Learnt as write-t
 use Rattle.map_write.proofs.length.Reads.{Asked as mapLength-asks, Learnt as mapLength-tells}
 use Rattle.map_read.proofs.capacity.Reads.{Asked as mapCapacity-asks, Learnt as mapCapacity-tells}
 use Rattle.map_read.proofs.read.Reads.{Asked as read-asks, Learnt as read-tells}
+use Rattle.directory.specs.Calls.{directory}
+use Rattle.directory.proofs.give.Reads.{Asked as give-asks, Learnt as give-tells}
+use Rattle.directory.proofs.open.Reads.{Asked as openDirectory-asks, Learnt as openDirectory-tells}
+use Rattle.directory.proofs.take_back.Reads.{Asked as takeBack-asks, Learnt as takeBack-tells}
 use Rattle.claims.specs.Calls.{Meets, promiseOf, Moves}
-use Rattle.claims.specs.Calls.Call.{«open», add, remove, contains, addList, isEmpty, clear, containsSet, equal, getFromLayer, averageOnes, firstFree, isSound, rebuild, bitorAssign, bitandAssign, bitxorAssign, start, next, fill, containsF, isEmptyF, getFromLayerF, startF, nextF, fillF, write, read, mapLength, mapCapacity, iterR}
+use Rattle.claims.specs.Calls.Call.{«open», add, remove, contains, addList, isEmpty, clear, containsSet, equal, getFromLayer, averageOnes, firstFree, isSound, rebuild, bitorAssign, bitandAssign, bitxorAssign, start, next, fill, containsF, isEmptyF, getFromLayerF, startF, nextF, fillF, write, read, mapLength, mapCapacity, openDirectory, give, takeBack, iterR}
 
 -- ---- calls on one store
 
@@ -163,6 +167,17 @@ mapLength-promised = (refl, refl)
 
 pub mapCapacity-promised : (mapCapacity-asks ≡ λ κs a. Unit {0}) × (mapCapacity-tells ≡ λ κs a z e. Meets (promiseOf (mapCapacity (now (a .0)))) z tt)
 mapCapacity-promised = (refl, refl)
+
+-- ---- the directory: the store comes first, then its owner bytes
+
+pub openDirectory-promised : (openDirectory-asks ≡ λ κs a. Unit {0}) × (openDirectory-tells ≡ λ κs a z e. Meets (promiseOf (openDirectory (directory (now (a .0)) (now (a .1 .0))) (a .1 .1 .0))) z (directory (now (e .0)) (now (e .1 .0))))
+openDirectory-promised = (refl, refl)
+
+pub give-promised : (give-asks ≡ λ κs a. Unit {0}) × (give-tells ≡ λ κs a z e. Meets (promiseOf (give (directory (now (a .0)) (now (a .1 .0))) (a .1 .1 .0))) z (directory (now (e .0)) (now (e .1 .0))))
+give-promised = (refl, refl)
+
+pub takeBack-promised : (takeBack-asks ≡ λ κs a. Unit {0}) × (takeBack-tells ≡ λ κs a z e. Meets (promiseOf (takeBack (directory (now (a .0)) (now (a .1 .0))) (a .1 .1 .0) (a .1 .1 .1 .0))) z (directory (now (e .0)) (now (e .1 .0))))
+takeBack-promised = (refl, refl)
 
 -- ---- the reader: where a struct with a reference is taken or handed back, the contract is the function's `spec`, and what it requires is
 -- nothing. The equations of a step are its promise by Settles' `moves-meets` and `first-meets`.

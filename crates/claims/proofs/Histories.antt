@@ -17,7 +17,7 @@ use Rattle.store.proofs.Geometry.{is-store}
 use Rattle.store.proofs.Members.{own, members-are, fine-same}
 use Rattle.set_edit.specs.Calls.{allBelow, addListOf}
 use Rattle.set_laws.proofs.Theorems.{fine-after, fine-after-list, member-add-list}
-use Rattle.set_whole.specs.Calls.{openOf, clearOf}
+use Rattle.set_whole.specs.Calls.{openRefusal, openOf, clearOf}
 use Rattle.set_whole.proofs.Theorems.{opened as opened-none}
 use Rattle.summary.proofs.Said.{rebuild-same}
 use Rattle.ops_merge.proofs.Theorems.{fine-merged}
@@ -36,7 +36,7 @@ cap-is {N} some most = rw (le-leb 1 N some, le-leb N maxCap most)
 
 -- "Open zeroes all words and writes N."
 pub open-empties : {N : ℕ} (s : List ℕ) → 1 ≤ N → N ≤ maxCap → length s ≡ storeLen N → openOf s N .lent ≡ empty N
-unfolding openOf
+unfolding openOf openRefusal
 open-empties {N} s some most l = rw (cap-is some most, eq-eqb (length s) (storeLen N) l)
 
 pub fine-open : {N : ℕ} (s : List ℕ) → 1 ≤ N → N ≤ maxCap → length s ≡ storeLen N → SoundStore N (openOf s N .lent)

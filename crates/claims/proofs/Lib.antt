@@ -1,9 +1,11 @@
 pub mod Histories
 pub mod Closed
 pub mod OneStore
+pub mod Directories
 pub mod Walks
 pub mod Maps
 pub mod Witnesses
+pub mod Stays
 pub mod Refusals
 pub mod Settles
 pub mod Contracts

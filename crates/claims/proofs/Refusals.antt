@@ -1,16 +1,14 @@
 -- DEMAND 1: "A refusal has a fixed number and alters nothing lent." Of every public call, for all inputs.
-use mathlib.Core.Bool.{Bool, true, false, cond, _&&_, _||_, true≢false}
+use mathlib.Core.Bool.{true, _&&_}
 use mathlib.Core.List.{List, [], _∷_}
 use mathlib.Core.Logic.{_≢_}
 use mathlib.Core.Path.{_≡_, refl, sym, ap, _∙_, subst}
 use Prim.Native.Nat.{ℕ, zero, suc, _-_, _<_, min}
 use native.Mathlib.Decide.{decLt}
 use native.Mathlib.Omega.{arith}
-use borrow.Author.Tests.{ne-eqb}
 use lib.Dec.{leb, ltb, eqb}
 use lib.ListN.{length, getD}
 use denote.Ref.{now}
-use Rattle.util.specs.Outcome.{Outcome, Paper, Settled}
 use Rattle.util.proofs.Same.{both}
 use Rattle.store.specs.Answer.{askedPaper, didPaper, foundPaper, readPaper, refuses}
 use Rattle.store.specs.Layout.{top, isCap, storeLen, cap, isStore}
@@ -21,7 +19,7 @@ use Rattle.store.specs.declared.Found.the-variants.{Refused as FoundRefused}
 use Rattle.store.specs.declared.Read.the-variants.{Refused as ReadRefused}
 use Rattle.set_member.specs.Calls.{containsOf}
 use Rattle.set_edit.specs.Calls.{moveOf, addOf, removeOf, allBelow, addListOf}
-use Rattle.set_whole.specs.Calls.{openOf, clearOf, isEmptyOf, equalOf}
+use Rattle.set_whole.specs.Calls.{openRefusal, openOf, clearOf, isEmptyOf, equalOf}
 use Rattle.set_layers.specs.Calls.{wordOf, layerPart}
 use Rattle.set_free.specs.Calls.{freeFrom, firstOf, firstFreeOf}
 use Rattle.set_superset.specs.Calls.{containsSetOf}
@@ -52,98 +50,60 @@ use Rattle.map_read.specs.Answer.{mapForPaper}
 use Rattle.map_read.specs.Calls.{mapCapacityOf, readOf}
 use Rattle.map_read.specs.declared.MapFor.the-variants.{Refused as MapForRefused}
 use Rattle.map_read.specs.Judge.{capIn, countIn, usedIn, tableIn, headOk, good, total, judgeOf}
-use Rattle.claims.specs.Calls.{Answered, Memory, Meets, refusal, refusalNumbers, isAmong, Refuses, Refused, Call, promiseOf, partPaper, layerPartOf, noBatch, toldPaper, toldRefused, toldOf, movedTo}
-use Rattle.claims.specs.Calls.Call.{«open», add, remove, contains, addList, isEmpty, clear, containsSet, equal, getFromLayer, layerAsSlice, averageOnes, firstFree, isSound, rebuild, bitorAssign, bitandAssign, bitxorAssign, start, next, fill, containsF, isEmptyF, getFromLayerF, startF, nextF, fillF, write, read, mapLength, mapCapacity, iterR, nextR, firstR}
-
--- what holds of both cases holds of the one chosen
-by-cond : {A : Type 0} (P : A → Type 0) (b : Bool) {x y : A} → P x → P y → P (cond b x y)
-by-cond P true p q = p
-by-cond P false p q = q
-
--- ---- one outcome
+use Rattle.directory.specs.Calls.{Directory, ownerAt, isItem, roomRefusal, itemRefusal, returnRefusal, directoryOpenOf, giveOf, takeBackOf}
+use Rattle.claims.specs.Calls.{Answered, Memory, Meets, refusal, Refuses, Refused, Call, promiseOf, partPaper, layerPartOf, noBatch, toldPaper, toldRefused, toldOf, movedTo}
+use Rattle.claims.specs.Calls.Call.{«open», add, remove, contains, addList, isEmpty, clear, containsSet, equal, getFromLayer, layerAsSlice, averageOnes, firstFree, isSound, rebuild, bitorAssign, bitandAssign, bitxorAssign, start, next, fill, containsF, isEmptyF, getFromLayerF, startF, nextF, fillF, write, read, mapLength, mapCapacity, openDirectory, give, takeBack, iterR, nextR, firstR}
+use Rattle.claims.proofs.Stays.{by-cond, isKnown, Stays, goes, no-goes, choose, refuses-so}
 
 -- 0, or a number of the table
-abbrev isKnown : ℕ → Bool
-isKnown = isAmong (0 ∷ refusalNumbers)
-
-not-zero : (n : ℕ) → n ≢ 0 → isKnown n ≡ true → isAmong refusalNumbers n ≡ true
-not-zero n h e = go (eqb n 0) (ne-eqb n 0 h) e
-  where
-    go : (x : Bool) → x ≡ false → (x || isAmong refusalNumbers n) ≡ true → isAmong refusalNumbers n ≡ true
-    go true f e = absurd (true≢false f)
-    go false f e = e
-
--- where its first number is not 0, the outcome is a refusal
-record Stays {R X : Type 0} (p : Paper R) (f : ℕ → R) (x : X) (o : Outcome X) : Type 0 where
-  known : isKnown (getD (o .numbers) 0 0) ≡ true
-  numbers : getD (o .numbers) 0 0 ≢ 0 → o .numbers ≡ p .numbers (f (getD (o .numbers) 0 0))
-  lent : getD (o .numbers) 0 0 ≢ 0 → o .lent ≡ x
-
-module _ {R X : Type 0} {p : Paper R} {f : ℕ → R} {x : X} where
-  goes : {o : Outcome X} → getD (o .numbers) 0 0 ≡ 0 → Stays p f x o
-  goes e = record { known = rw e; numbers = λ n. absurd (n e); lent = λ n. absurd (n e) }
-
-  stays : (n : ℕ) → isKnown n ≡ true → p .numbers (f n) ≡ n ∷ [] → Stays p f x (refuses n x)
-  stays n h e = record { known = h; numbers = λ z. sym e; lent = λ z. refl }
-
-  choose : (b : Bool) {o o′ : Outcome X} → Stays p f x o → Stays p f x o′ → Stays p f x (cond b o o′)
-  choose = by-cond (Stays p f x)
-
-  -- the answer and the memory that meet the outcome
-  refuses-so : {o : Outcome X} → Stays p f x o → {r : R} {y : X} → Settled p o r y → getD (p .numbers r) 0 0 ≢ 0
-      → Refuses f x (getD (p .numbers r) 0 0) r y
-  refuses-so {o} k {r} s n =
-      let e : getD (p .numbers r) 0 0 ≡ getD (o .numbers) 0 0 = ap (λ (l : List ℕ). getD l 0 0) (s .answer) in
-      let m : getD (o .numbers) 0 0 ≢ 0 = λ z. n (e ∙ z) in
-      record {
-        known = subst (λ (i : ℕ). isAmong refusalNumbers i ≡ true) (sym e) (not-zero (getD (o .numbers) 0 0) m (k .known));
-        answer =
-            sym (p .same r) ∙ ap (p .answer) (s .answer ∙ k .numbers m) ∙ p .same (f (getD (o .numbers) 0 0))
-            ∙ ap f (sym e);
-        memory = s .memory ∙ k .lent m;
-      }
+abbrev Known : ℕ → Type 0
+Known n = isKnown n ≡ true
 
 -- ---- calls on one store
 
+open-known : (n len : ℕ) → Known (openRefusal n len)
+unfolding openRefusal
+open-known n len = by-cond Known (isCap n) (by-cond Known (eqb len (storeLen n)) refl refl) refl
+
 open-stays : (s : List ℕ) (n : ℕ) → Stays didPaper DidRefused s (openOf s n)
 unfolding openOf
-open-stays s n = choose (isCap n) (choose (eqb (length s) (storeLen n)) (goes refl) (stays 2 refl refl)) (stays 1 refl refl)
+open-stays s n = choose (eqb (openRefusal n (length s)) 0) (goes refl) (no-goes _ (open-known n (length s)) refl)
 
 add-stays : (s : List ℕ) (i : ℕ) → Stays askedPaper AskedRefused s (addOf s i)
 unfolding moveOf
-add-stays s i = choose (isStore s) (choose (ltb i (cap s)) (goes refl) (stays 3 refl refl)) (stays 2 refl refl)
+add-stays s i = choose (isStore s) (choose (ltb i (cap s)) (goes refl) (no-goes 3 refl refl)) (no-goes 2 refl refl)
 
 remove-stays : (s : List ℕ) (i : ℕ) → Stays askedPaper AskedRefused s (removeOf s i)
 unfolding moveOf
-remove-stays s i = choose (isStore s) (choose (ltb i (cap s)) (goes refl) (goes refl)) (stays 2 refl refl)
+remove-stays s i = choose (isStore s) (choose (ltb i (cap s)) (goes refl) (goes refl)) (no-goes 2 refl refl)
 
 contains-stays : (s : List ℕ) (i : ℕ) → Stays askedPaper AskedRefused tt (containsOf s i)
 unfolding containsOf
-contains-stays s i = choose (isStore s) (goes refl) (stays 2 refl refl)
+contains-stays s i = choose (isStore s) (goes refl) (no-goes 2 refl refl)
 
 list-stays : (s ids : List ℕ) → Stays didPaper DidRefused s (addListOf s ids)
 unfolding addListOf
-list-stays s ids = choose (isStore s) (choose (allBelow (cap s) ids) (goes refl) (stays 3 refl refl)) (stays 2 refl refl)
+list-stays s ids = choose (isStore s) (choose (allBelow (cap s) ids) (goes refl) (no-goes 3 refl refl)) (no-goes 2 refl refl)
 
 empty-stays : (s : List ℕ) → Stays askedPaper AskedRefused tt (isEmptyOf s)
 unfolding isEmptyOf
-empty-stays s = choose (isStore s) (goes refl) (stays 2 refl refl)
+empty-stays s = choose (isStore s) (goes refl) (no-goes 2 refl refl)
 
 clear-stays : (s : List ℕ) → Stays didPaper DidRefused s (clearOf s)
 unfolding clearOf
-clear-stays s = choose (isStore s) (goes refl) (stays 2 refl refl)
+clear-stays s = choose (isStore s) (goes refl) (no-goes 2 refl refl)
 
 set-stays : (s t : List ℕ) → Stays askedPaper AskedRefused tt (containsSetOf s t)
 unfolding containsSetOf
-set-stays s t = choose (isStore s && isStore t) (choose (eqb (cap s) (cap t)) (goes refl) (stays 5 refl refl)) (stays 2 refl refl)
+set-stays s t = choose (isStore s && isStore t) (choose (eqb (cap s) (cap t)) (goes refl) (no-goes 5 refl refl)) (no-goes 2 refl refl)
 
 equal-stays : (s t : List ℕ) → Stays askedPaper AskedRefused tt (equalOf s t)
 unfolding equalOf
-equal-stays s t = choose (isStore s && isStore t) (choose (eqb (cap s) (cap t)) (goes refl) (stays 5 refl refl)) (stays 2 refl refl)
+equal-stays s t = choose (isStore s && isStore t) (choose (eqb (cap s) (cap t)) (goes refl) (no-goes 5 refl refl)) (no-goes 2 refl refl)
 
 word-stays : (s : List ℕ) (k i : ℕ) → Stays readPaper ReadRefused tt (wordOf s k i)
 unfolding wordOf
-word-stays s k i = choose (isStore s) (choose (leb k (top (cap s))) (goes refl) (stays 4 refl refl)) (stays 2 refl refl)
+word-stays s k i = choose (isStore s) (choose (leb k (top (cap s))) (goes refl) (no-goes 4 refl refl)) (no-goes 2 refl refl)
 
 part-stays : (s : List ℕ) (k : ℕ) → Stays partPaper (λ n. []) tt (layerPartOf s k)
 part-stays s k = go (layerPart s k)
@@ -154,25 +114,25 @@ part-stays s k = go (layerPart s k)
 
 free-stays : (s : List ℕ) → Stays foundPaper FoundRefused tt (firstFreeOf s)
 unfolding firstFreeOf
-free-stays s = choose (isStore s) (go (freeFrom (cap s) s 0)) (stays 2 refl refl)
+free-stays s = choose (isStore s) (go (freeFrom (cap s) s 0)) (no-goes 2 refl refl)
   where
     go : (l : List ℕ) → Stays foundPaper FoundRefused tt (firstOf l)
-    go [] = stays 12 refl refl
+    go [] = no-goes 12 refl refl
     go (i ∷ l) = goes refl
 
 sound-stays : (s : List ℕ) → Stays askedPaper AskedRefused tt (isSoundOf s)
 unfolding isSoundOf
-sound-stays s = choose (isStore s) (goes refl) (stays 2 refl refl)
+sound-stays s = choose (isStore s) (goes refl) (no-goes 2 refl refl)
 
 rebuild-stays : (s : List ℕ) → Stays didPaper DidRefused s (rebuildOf s)
 unfolding rebuildOf
-rebuild-stays s = choose (isStore s) (goes refl) (stays 2 refl refl)
+rebuild-stays s = choose (isStore s) (goes refl) (no-goes 2 refl refl)
 
 -- ---- in place: a refusal is none of two stores of equal capacity, and then all is settled
 
 assign-stays : (op : ℕ) (s t : List ℕ) → Stays didPaper DidRefused s (assignOf op s t)
 unfolding assignOf
-assign-stays op s t = choose (isStore s && isStore t) (choose (eqb (cap s) (cap t)) (goes refl) (stays 5 refl refl)) (stays 2 refl refl)
+assign-stays op s t = choose (isStore s && isStore t) (choose (eqb (cap s) (cap t)) (goes refl) (no-goes 5 refl refl)) (no-goes 2 refl refl)
 
 pair-goes : (op : ℕ) (s t : List ℕ) → mergeable s t ≡ true → getD (assignOf op s t .numbers) 0 0 ≡ 0
 unfolding mergeable assignOf
@@ -265,9 +225,6 @@ told-stays s c b at =
 
 -- ---- formulas: the refusal of the stores, of the codes, of a cursor
 
-abbrev Known : ℕ → Type 0
-Known n = isKnown n ≡ true
-
 sooner-known : (a b : ℕ) → Known a → Known b → Known (sooner a b)
 unfolding sooner
 sooner-known a b h g = by-cond Known (eqb a 0) g (by-cond Known (eqb b 0) h (go (decLt a b)))
@@ -296,16 +253,16 @@ refusal-known ss cs c = by-cond Known (eqb (checkOf ss cs) 0) (by-cond Known (fi
 module _ (ss : List (List ℕ)) (cs : List ℕ) where
   containsF-stays : (i : ℕ) → Stays askedPaper AskedRefused tt (formulaContainsOf ss cs i)
   unfolding formulaContainsOf
-  containsF-stays i = choose (eqb (checkOf ss cs) 0) (goes refl) (stays _ (check-known ss cs) refl)
+  containsF-stays i = choose (eqb (checkOf ss cs) 0) (goes refl) (no-goes _ (check-known ss cs) refl)
 
   emptyF-stays : Stays askedPaper AskedRefused tt (formulaIsEmptyOf ss cs)
   unfolding formulaIsEmptyOf
-  emptyF-stays = choose (eqb (checkOf ss cs) 0) (goes refl) (stays _ (check-known ss cs) refl)
+  emptyF-stays = choose (eqb (checkOf ss cs) 0) (goes refl) (no-goes _ (check-known ss cs) refl)
 
   wordF-stays : (k i : ℕ) → Stays readPaper ReadRefused tt (layerWordOf ss cs k i)
   unfolding layerWordOf
   wordF-stays k i =
-      choose (eqb (storesOf ss) 0) (choose (leb k (top (capOf ss))) (choose (isFormula ss cs) (goes refl) (stays 6 refl refl)) (stays 4 refl refl)) (stays _ (stores-known ss) refl)
+      choose (eqb (storesOf ss) 0) (choose (leb k (top (capOf ss))) (choose (isFormula ss cs) (goes refl) (no-goes 6 refl refl)) (no-goes 4 refl refl)) (no-goes _ (stores-known ss) refl)
 
   startF-stays : (c : Cursor) → StepStays c (formulaStartIn ss cs c)
   unfolding formulaStartIn
@@ -323,7 +280,7 @@ module _ (ss : List (List ℕ)) (cs : List ℕ) where
 
 write-stays : (s m : List ℕ) → Stays wrotePaper WroteRefused m (writeOf s m)
 unfolding writeOf
-write-stays s m = choose (isStore s) (choose (leb (mapLen (toldWords (cap s) s)) (length m)) (goes refl) (stays 8 refl refl)) (stays 2 refl refl)
+write-stays s m = choose (isStore s) (choose (leb (mapLen (toldWords (cap s) s)) (length m)) (goes refl) (no-goes 8 refl refl)) (no-goes 2 refl refl)
 
 judge-known : (m : List ℕ) (N : ℕ) → Known (judgeOf m N)
 unfolding judgeOf
@@ -336,15 +293,46 @@ judge-known m N =
 
 length-stays : (s : List ℕ) → Stays wrotePaper WroteRefused tt (mapLengthOf s)
 unfolding mapLengthOf
-length-stays s = choose (isStore s) (goes refl) (stays 2 refl refl)
+length-stays s = choose (isStore s) (goes refl) (no-goes 2 refl refl)
 
 capacity-stays : (m : List ℕ) → Stays mapForPaper MapForRefused tt (mapCapacityOf m)
 unfolding mapCapacityOf
-capacity-stays m = choose (headOk m) (goes refl) (stays 9 refl refl)
+capacity-stays m = choose (headOk m) (goes refl) (no-goes 9 refl refl)
 
 read-stays : (m s : List ℕ) → Stays didPaper DidRefused s (readOf m s)
 unfolding readOf
-read-stays m s = choose (isStore s) (choose (eqb (judgeOf m (cap s)) 0) (goes refl) (stays _ (judge-known m (cap s)) refl)) (stays 2 refl refl)
+read-stays m s = choose (isStore s) (choose (eqb (judgeOf m (cap s)) 0) (goes refl) (no-goes _ (judge-known m (cap s)) refl)) (no-goes 2 refl refl)
+
+-- ---- the directory
+
+room-known : (words bytes n : ℕ) → Known (roomRefusal words bytes n)
+unfolding roomRefusal
+room-known words bytes n = by-cond Known (eqb (openRefusal n words) 0) (by-cond Known (eqb bytes n) refl refl) (open-known n words)
+
+item-known : (d : Directory) (x : ℕ) → Known (itemRefusal d x)
+unfolding itemRefusal
+item-known d x =
+    by-cond Known (isStore (d .store)) (by-cond Known (eqb (length (d .owners)) (cap (d .store))) (by-cond Known (isItem x) refl refl) refl) refl
+
+owner-known : (d : Directory) (x c : ℕ) → Known (returnRefusal d x c)
+unfolding returnRefusal
+owner-known d x c = by-cond Known (eqb (itemRefusal d x) 0) (by-cond Known (ltb c (cap (d .store)) && eqb (ownerAt d c) x) refl refl) (item-known d x)
+
+directory-stays : (d : Directory) (n : ℕ) → Stays didPaper DidRefused d (directoryOpenOf d n)
+unfolding directoryOpenOf
+directory-stays d n =
+    let r = roomRefusal (length (d .store)) (length (d .owners)) n in
+    choose (eqb r 0) (goes refl) (no-goes r (room-known (length (d .store)) (length (d .owners)) n) refl)
+
+give-stays : (d : Directory) (x : ℕ) → Stays foundPaper FoundRefused d (giveOf d x)
+unfolding giveOf
+give-stays d x =
+    let f = getD (firstFreeOf (d .store) .numbers) 0 0 in
+    choose (eqb (itemRefusal d x) 0) (choose (eqb f 0) (goes refl) (no-goes f (free-stays (d .store) .known) refl)) (no-goes (itemRefusal d x) (item-known d x) refl)
+
+take-stays : (d : Directory) (x c : ℕ) → Stays didPaper DidRefused d (takeBackOf d x c)
+unfolding takeBackOf
+take-stays d x c = choose (eqb (returnRefusal d x c) 0) (goes refl) (no-goes (returnRefusal d x c) (owner-known d x c) refl)
 
 -- ---- THE LIST: "Each returns its number and zeros elsewhere and changes nothing lent; a refused next hands back its cursor as given."
 
@@ -381,6 +369,9 @@ refusals (write s m) r y = refuses-so (write-stays s m)
 refusals (read m s) r y = refuses-so (read-stays m s)
 refusals (mapLength s) r y = refuses-so (length-stays s)
 refusals (mapCapacity m) r y = refuses-so (capacity-stays m)
+refusals (openDirectory d n) r y = refuses-so (directory-stays d n)
+refusals (give d x) r y = refuses-so (give-stays d x)
+refusals (takeBack d x c) r y = refuses-so (take-stays d x c)
 refusals (iterR v) r y = λ m n. n refl
 refusals (nextR it b) r y = refuses-so (told-stays (now (it .store)) (it .cursor) b (movedTo it))
 refusals (firstR s b) r y = refuses-so (told-stays s (startedOf s) b (λ c. tt))

@@ -1,4 +1,4 @@
--- Every public call of document 01 with its arguments, and what its contract promises: one list, for what is said of all of them.
+-- Every public call of documents 01 and 02 with its arguments, and what its contract promises: one list, for what is said of all of them.
 use mathlib.Core.Bool.{Bool, true, false, _||_}
 use mathlib.Core.List.{List, [], _∷_}
 use mathlib.Core.Path.{_≡_, refl, ap}
@@ -43,6 +43,7 @@ use Rattle.map_write.specs.declared.Wrote.the-variants.{Refused as WroteRefused
 use Rattle.map_read.specs.Answer.{mapForPaper}
 use Rattle.map_read.specs.Calls.{mapCapacityOf, readOf}
 use Rattle.map_read.specs.declared.MapFor.the-variants.{Refused as MapForRefused}
+use Rattle.directory.specs.Calls.{Directory, directoryOpenOf, giveOf, takeBackOf}
 
 -- ---- promises
 
@@ -83,9 +84,9 @@ refusal (tells p o) r = 0
 refusal (merges op s t) r = getD (didPaper .numbers r) 0 0
 refusal (makes s c) r = 0
 
--- the table "Refusals by number"
+-- the table "Refusals by number", and those of document 02
 abbrev pub refusalNumbers : List ℕ
-refusalNumbers = 1 ∷ 2 ∷ 3 ∷ 4 ∷ 5 ∷ 6 ∷ 7 ∷ 8 ∷ 9 ∷ 10 ∷ 11 ∷ 12 ∷ []
+refusalNumbers = 1 ∷ 2 ∷ 3 ∷ 4 ∷ 5 ∷ 6 ∷ 7 ∷ 8 ∷ 9 ∷ 10 ∷ 11 ∷ 12 ∷ 13 ∷ 14 ∷ 15 ∷ []
 
 abbrev pub isAmong : List ℕ → ℕ → Bool
 isAmong [] n = false
@@ -169,7 +170,7 @@ abbrev pub Moves : BitIter → Step → Told → BitIter → Type 0
 Moves it a r y = (y .store ≡ it .store) × (y .cursor ≡ a .cursor) × (r ≡ told a)
 
 -- s, t: stores; i: an id; k: a layer's number; c: a cursor; b: a budget of reads; out: places for ids; ss, cs: the four slices and the codes
--- of a formula; m: the bytes of a map; v: a lent store by its reference; it: a reader. Names as in the Rust, where the calls over a formula end
+-- of a formula; m: the bytes of a map; d: a directory, x: an item; v: a lent store by its reference; it: a reader. Names as in the Rust, where the calls over a formula end
 -- in F and those of a reader in R.
 pub data Call : Type 0 where
   «open» : (s : List ℕ) (n : ℕ) → Call
@@ -195,6 +196,9 @@ pub data Call : Type 0 where
   read : (m s : List ℕ) → Call
   mapLength : (s : List ℕ) → Call
   mapCapacity : (m : List ℕ) → Call
+  openDirectory : (d : Directory) (n : ℕ) → Call
+  give : (d : Directory) (x : ℕ) → Call
+  takeBack : (d : Directory) (x i : ℕ) → Call
   iterR : (v : RefT (List ℕ)) → Call
   nextR : (it : BitIter) (b : ℕ) → Call
   firstR : (s : List ℕ) (b : ℕ) → Call
@@ -236,6 +240,9 @@ promiseOf (write s m) = fixes wrotePaper WroteRefused m (writeOf s m)
 promiseOf (read m s) = fixes didPaper DidRefused s (readOf m s)
 promiseOf (mapLength s) = fixes wrotePaper WroteRefused tt (mapLengthOf s)
 promiseOf (mapCapacity m) = fixes mapForPaper MapForRefused tt (mapCapacityOf m)
+promiseOf (openDirectory d n) = fixes didPaper DidRefused d (directoryOpenOf d n)
+promiseOf (give d x) = fixes foundPaper FoundRefused d (giveOf d x)
+promiseOf (takeBack d x i) = fixes didPaper DidRefused d (takeBackOf d x i)
 promiseOf (iterR v) = makes v (startedOf (now v))
 promiseOf (nextR it b) = fixes toldPaper toldRefused it (toldOf (nextIn (now (it .store)) (it .cursor) b) (movedTo it))
 promiseOf (firstR s b) = fixes toldPaper toldRefused tt (toldOf {X = Unit {0}} (nextIn s (startedOf s) b) (λ c. tt))

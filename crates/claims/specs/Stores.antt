@@ -1,13 +1,15 @@
 -- The stores that a call is lent, and those that it leaves where it was lent them to be written: what is said of stores over every call.
-use mathlib.Core.Bool.{Bool, cond, _&&_}
+use mathlib.Core.Bool.{Bool, cond}
 use mathlib.Core.List.{List, [], _∷_}
 use Prim.Native.Nat.{ℕ}
 use lib.Dec.{eqb}
 use lib.ListN.{length}
 use denote.Ref.{now}
-use Rattle.store.specs.Layout.{isCap, storeLen, cap}
+use Rattle.store.specs.Layout.{cap}
+use Rattle.set_whole.specs.Calls.{openRefusal}
+use Rattle.directory.specs.Calls.{Directory, roomRefusal}
 use Rattle.claims.specs.Calls.{Memory, Call, promiseOf}
-use Rattle.claims.specs.Calls.Call.{«open», add, remove, contains, addList, isEmpty, clear, containsSet, equal, getFromLayer, layerAsSlice, averageOnes, firstFree, isSound, rebuild, bitorAssign, bitandAssign, bitxorAssign, start, next, fill, containsF, isEmptyF, getFromLayerF, startF, nextF, fillF, write, read, mapLength, mapCapacity, iterR, nextR, firstR}
+use Rattle.claims.specs.Calls.Call.{«open», add, remove, contains, addList, isEmpty, clear, containsSet, equal, getFromLayer, layerAsSlice, averageOnes, firstFree, isSound, rebuild, bitorAssign, bitandAssign, bitxorAssign, start, next, fill, containsF, isEmptyF, getFromLayerF, startF, nextF, fillF, write, read, mapLength, mapCapacity, openDirectory, give, takeBack, iterR, nextR, firstR}
 
 -- P of every store of a list, each with its capacity
 abbrev pub Each : (ℕ → List ℕ → Type 0) → List (ℕ × List ℕ) → Type 0
@@ -23,9 +25,12 @@ abbrev pub notEmpty : List (List ℕ) → List (ℕ × List ℕ)
 notEmpty [] = []
 notEmpty (s ∷ ss) = let l = notEmpty ss in cond (eqb (length s) 0) l (ofOwn s ∷ l)
 
--- whether open goes through: refusals 1 and 2 are not given
+-- whether an opening goes through: the set's, where refusals 1 and 2 are not given, and the directory's, where 13 is not given either
 abbrev pub opens : List ℕ → ℕ → Bool
-opens s n = isCap n && eqb (length s) (storeLen n)
+opens s n = eqb (openRefusal n (length s)) 0
+
+abbrev pub opensBoth : Directory → ℕ → Bool
+opensBoth d n = eqb (roomRefusal (length (d .store)) (length (d .owners)) n) 0
 
 -- THE STORES LENT to a call, to be read or to be written. "Open zeroes all words": where it goes through it is lent words and no store.
 abbrev pub lentTo : Call → List (ℕ × List ℕ)
@@ -60,12 +65,15 @@ lentTo (write s m) = ofOwn s ∷ []
 lentTo (read m s) = ofOwn s ∷ []
 lentTo (mapLength s) = ofOwn s ∷ []
 lentTo (mapCapacity m) = []
+lentTo (openDirectory d n) = cond (opensBoth d n) [] (ofOwn (d .store) ∷ [])
+lentTo (give d x) = ofOwn (d .store) ∷ []
+lentTo (takeBack d x i) = ofOwn (d .store) ∷ []
 lentTo (iterR v) = ofOwn (now v) ∷ []
 lentTo (nextR it b) = ofOwn (now (it .store)) ∷ []
 lentTo (firstR s b) = ofOwn s ∷ []
 
 -- THE STORES THAT IT LEAVES where it was lent them to be written, in the memory y at exit: of the capacity that each had, or is opened for.
--- Ids, the bytes of a map and a reader's cursor are no store.
+-- Ids, the bytes of a map, owner bytes and a reader's cursor are no store.
 abbrev pub leftBy : (c : Call) → Memory (promiseOf c) → List (ℕ × List ℕ)
 leftBy («open» s n) y = (cond (opens s n) n (cap s), y) ∷ []
 leftBy (add s i) y = (cap s, y) ∷ []
@@ -98,6 +106,9 @@ leftBy (write s m) y = []
 leftBy (read m s) y = (cap s, y) ∷ []
 leftBy (mapLength s) y = []
 leftBy (mapCapacity m) y = []
+leftBy (openDirectory d n) y = (cond (opensBoth d n) n (cap (d .store)), y .store) ∷ []
+leftBy (give d x) y = (cap (d .store), y .store) ∷ []
+leftBy (takeBack d x i) y = (cap (d .store), y .store) ∷ []
 leftBy (iterR v) y = []
 leftBy (nextR it b) y = []
 leftBy (firstR s b) y = []

@@ -14,7 +14,7 @@ use Rattle.store.specs.Word.{word, on, anc, put}
 use Rattle.store.specs.declared.Did.{Did}
 use Rattle.set_edit.specs.Calls.{moveOf, allBelow, addAll, addListOf}
 use Rattle.set_edit.specs.Edit.{edit, edits, addLayers, wordLeft, climb, removeLayers, movedBy}
-use Rattle.set_whole.specs.Calls.{openOf, isEmptyOf}
+use Rattle.set_whole.specs.Calls.{openRefusal, openOf, isEmptyOf}
 use Rattle.set_layers.specs.Calls.{wordOf}
 use Rattle.set_free.specs.Calls.{freeFrom, firstFreeOf}
 use Rattle.walk.specs.Calls.{prefixesFit, startIn, nextIn}
@@ -52,21 +52,21 @@ abbrev large-one : ℕ → List ℕ
 large-one w = large 1 0 w 0
 
 written-out : (far ≡ large-far) × (one 5 ≡ large-one 32) × (one 1 ≡ large-one 2) × (one 2 ≡ large-one 4)
-unfolding bit change top isCap isStore room span layerEnd word on anc put moveOf movedBy allBelow addAll addListOf edit edits addLayers openOf
+unfolding bit change top isCap isStore room span layerEnd word on anc put moveOf movedBy allBelow addAll addListOf edit edits addLayers openRefusal openOf
 written-out = (refl, refl, refl, refl)
 
 -- ---- each sample
 
 holds1 : Holds (p1 (one 12345))
-unfolding p1 wordOf bit change top isCap isStore room span layerEnd word on anc put moveOf movedBy allBelow addAll addListOf edit edits addLayers openOf
+unfolding p1 wordOf bit change top isCap isStore room span layerEnd word on anc put moveOf movedBy allBelow addAll addListOf edit edits addLayers openRefusal openOf
 holds1 = (refl, (refl, (refl, (refl, tt))))
 
 holds2 : Holds (p2 added)
-unfolding p2 wordOf bit change top isCap isStore room span layerEnd word on anc put moveOf movedBy allBelow addAll addListOf edit edits addLayers openOf
+unfolding p2 wordOf bit change top isCap isStore room span layerEnd word on anc put moveOf movedBy allBelow addAll addListOf edit edits addLayers openRefusal openOf
 holds2 = (refl, (refl, tt))
 
 holds3 : Holds (p3 removed)
-unfolding p3 wordOf wordLeft climb removeLayers bit change top isCap isStore room span layerEnd word on anc put moveOf movedBy allBelow addAll addListOf edit edits addLayers openOf
+unfolding p3 wordOf wordLeft climb removeLayers bit change top isCap isStore room span layerEnd word on anc put moveOf movedBy allBelow addAll addListOf edit edits addLayers openRefusal openOf
 holds3 = (refl, tt)
 
 holds456 : Holds p456
@@ -123,11 +123,11 @@ holds10 : Holds (p10 far)
 holds10 = subst (λ (s : List ℕ). Holds (p10 s)) (sym (written-out .0)) large10
 
 holds11 : Holds p11
-unfolding p11 firstFreeOf freeFrom places bit change top isCap isStore room span layerEnd word on anc put moveOf movedBy allBelow addAll addListOf edit edits addLayers openOf
+unfolding p11 firstFreeOf freeFrom places bit change top isCap isStore room span layerEnd word on anc put moveOf movedBy allBelow addAll addListOf edit edits addLayers openRefusal openOf
 holds11 = (refl, (refl, tt))
 
 holds12 : Holds (p12 s65)
-unfolding p12 writeOf mapOf keptFrom countAll used entries le count onesIn bit change top isCap isStore room span layerEnd word on anc put moveOf movedBy allBelow addAll addListOf edit edits addLayers openOf
+unfolding p12 writeOf mapOf keptFrom countAll used entries le count onesIn bit change top isCap isStore room span layerEnd word on anc put moveOf movedBy allBelow addAll addListOf edit edits addLayers openRefusal openOf
 holds12 = (refl, (refl, tt))
 
 -- ---- THE TABLE
@@ -148,11 +148,11 @@ in-place ids ids′ r u v =
 
 -- with two bytes to spare, and into one byte too few
 pub p12-spare : writeOf s65 (replicate 42 7) ≡ gives 40 (bytes12 ++ (7 ∷ 7 ∷ []))
-unfolding writeOf mapOf keptFrom countAll used entries le count onesIn bit change top isCap isStore room span layerEnd word on anc put moveOf movedBy allBelow addAll addListOf edit edits addLayers openOf
+unfolding writeOf mapOf keptFrom countAll used entries le count onesIn bit change top isCap isStore room span layerEnd word on anc put moveOf movedBy allBelow addAll addListOf edit edits addLayers openRefusal openOf
 p12-spare = refl
 
 pub p12-short : writeOf s65 (replicate 39 7) ≡ refuses 8 (replicate 39 7)
-unfolding writeOf mapOf keptFrom countAll used entries le count onesIn bit change top isCap isStore room span layerEnd word on anc put moveOf movedBy allBelow addAll addListOf edit edits addLayers openOf
+unfolding writeOf mapOf keptFrom countAll used entries le count onesIn bit change top isCap isStore room span layerEnd word on anc put moveOf movedBy allBelow addAll addListOf edit edits addLayers openRefusal openOf
 p12-short = refl
 
 -- bits past N and wrong summaries change nothing
@@ -162,7 +162,7 @@ p12-unsound = refl
 
 -- read into a store full of other words
 pub p12-read : readOf bytes12 (65 ∷ 9 ∷ 9 ∷ 9 ∷ 9 ∷ 9 ∷ []) ≡ does s65
-unfolding readOf judgeOf headOk good entryOk total fillTable mapWords build stacked layerOf chunks flags num count onesIn bit change top isCap isStore room span layerEnd word on anc put moveOf movedBy allBelow addAll addListOf edit edits addLayers openOf
+unfolding readOf judgeOf headOk good entryOk total fillTable mapWords build stacked layerOf chunks flags num count onesIn bit change top isCap isStore room span layerEnd word on anc put moveOf movedBy allBelow addAll addListOf edit edits addLayers openRefusal openOf
 p12-read = refl
 
 -- offset; capacity; a number repeated, past L0; a bit past N, a zero word; the count; the word count; one byte too few; and none

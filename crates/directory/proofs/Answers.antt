@@ -19,7 +19,7 @@ use Rattle.set_edit.specs.Calls.{addOf, removeOf}
 use Rattle.set_free.specs.Calls.{firstFreeOf, LowestFree}
 use Rattle.set_free.proofs.Lowest.{free-told, free-found}
 use Rattle.set_whole.specs.Calls.{openRefusal, openOf}
-use Rattle.directory.specs.Calls.{Directory, directory, ownerAt, refusalOf, valueOf, isItem, roomRefusal, judgeOf, returnRefusal, directoryOpenOf, giveOf, takeBackOf}
+use Rattle.directory.specs.Calls.{Directory, directory, ownerAt, refusalNumber, valueOf, isItem, roomRefusal, itemRefusal, returnRefusal, directoryOpenOf, giveOf, takeBackOf}
 
 -- ---- items
 
@@ -63,47 +63,47 @@ room-in words bytes N h = go (eqb (openRefusal N words) 0) refl (eqb bytes N) re
     go false e b f q = absurd (true≢false (sym (eq-eqb (openRefusal N words) 0 q) ∙ e))
 
 -- a call for item x goes on: there is a store, one byte per chunk, and x is an item
-pub record Judged (d : Directory) (x : ℕ) : Type 0 where
+pub record ForItem (d : Directory) (x : ℕ) : Type 0 where
   pub is : isStore (d .store) ≡ true
   pub long : length (d .owners) ≡ cap (d .store)
   pub item : isItem x ≡ true
 
 module _ (s o : List ℕ) (x : ℕ) where
-  pub judge-2 : isStore s ≡ false → 2 ≡ judgeOf (directory s o) x
-  unfolding judgeOf
+  pub judge-2 : isStore s ≡ false → 2 ≡ itemRefusal (directory s o) x
+  unfolding itemRefusal
   judge-2 h = rw h
 
   module _ (h : isStore s ≡ true) where
-    pub judge-13 : length o ≢ cap s → 13 ≡ judgeOf (directory s o) x
-    unfolding judgeOf
+    pub judge-13 : length o ≢ cap s → 13 ≡ itemRefusal (directory s o) x
+    unfolding itemRefusal
     judge-13 n = rw (h, ne-eqb (length o) (cap s) n)
 
     module _ (l : length o ≡ cap s) where
-      pub judge-14 : isItem x ≡ false → 14 ≡ judgeOf (directory s o) x
-      unfolding judgeOf
+      pub judge-14 : isItem x ≡ false → 14 ≡ itemRefusal (directory s o) x
+      unfolding itemRefusal
       judge-14 i = rw (h, eq-eqb (length o) (cap s) l, i)
 
-      pub judge-0 : isItem x ≡ true → 0 ≡ judgeOf (directory s o) x
-      unfolding judgeOf
+      pub judge-0 : isItem x ≡ true → 0 ≡ itemRefusal (directory s o) x
+      unfolding itemRefusal
       judge-0 i = rw (h, eq-eqb (length o) (cap s) l, i)
 
-pub judged : (d : Directory) (x : ℕ) → judgeOf d x ≡ 0 → Judged d x
-unfolding judgeOf
+pub judged : (d : Directory) (x : ℕ) → itemRefusal d x ≡ 0 → ForItem d x
+unfolding itemRefusal
 judged d x h = go (isStore (d .store)) refl (eqb (length (d .owners)) (cap (d .store))) refl (isItem x) refl h
   where
     go : (a : Bool) → isStore (d .store) ≡ a → (b : Bool) → eqb (length (d .owners)) (cap (d .store)) ≡ b → (i : Bool) → isItem x ≡ i
-        → cond {A = ℕ} a (cond b (cond i 0 14) 13) 2 ≡ 0 → Judged d x
+        → cond {A = ℕ} a (cond b (cond i 0 14) 13) 2 ≡ 0 → ForItem d x
     go true e true f true g q = record { is = e; long = eqb-true (length (d .owners)) (cap (d .store)) f; item = g }
     go true e true f false g q = absurd (omega (arith, q))
     go true e false f i g q = absurd (omega (arith, q))
     go false e b f i g q = absurd (omega (arith, q))
 
 module _ (d : Directory) (x c : ℕ) where
-  pub return-judge : {r : ℕ} → r ≡ judgeOf d x → r ≢ 0 → r ≡ returnRefusal d x c
+  pub return-judge : {r : ℕ} → r ≡ itemRefusal d x → r ≢ 0 → r ≡ returnRefusal d x c
   unfolding returnRefusal
   return-judge {r} e n = rw (← e, ne-eqb r 0 n)
 
-  module _ (h : judgeOf d x ≡ 0) where
+  module _ (h : itemRefusal d x ≡ 0) where
     pub return-past : length (d .owners) ≤ c → 15 ≡ returnRefusal d x c
     unfolding returnRefusal
     return-past l = let u : cap (d .store) ≤ c = omega (arith, judged d x h .long) in rw (h, le-ltb c (cap (d .store)) u)
@@ -122,43 +122,43 @@ module _ (d : Directory) (x c : ℕ) where
 
 -- a return goes on: also, the chunk has room and its byte is the item
 pub record Returned (d : Directory) (x c : ℕ) : Type 0 where
-  pub judged : Judged d x
+  pub judged : ForItem d x
   pub below : c < cap (d .store)
   pub byte : ownerAt d c ≡ x
 
 pub returned : (d : Directory) (x c : ℕ) → returnRefusal d x c ≡ 0 → Returned d x c
 unfolding returnRefusal
-returned d x c h = go (eqb (judgeOf d x) 0) refl (ltb c (cap (d .store)) && eqb (ownerAt d c) x) refl h
+returned d x c h = go (eqb (itemRefusal d x) 0) refl (ltb c (cap (d .store)) && eqb (ownerAt d c) x) refl h
   where
-    go : (a : Bool) → eqb (judgeOf d x) 0 ≡ a → (b : Bool) → (ltb c (cap (d .store)) && eqb (ownerAt d c) x) ≡ b → cond {A = ℕ} a (cond b 0 15) (judgeOf d x) ≡ 0
+    go : (a : Bool) → eqb (itemRefusal d x) 0 ≡ a → (b : Bool) → (ltb c (cap (d .store)) && eqb (ownerAt d c) x) ≡ b → cond {A = ℕ} a (cond b 0 15) (itemRefusal d x) ≡ 0
         → Returned d x c
     go true e true f q =
         let k = both (ltb c (cap (d .store))) (eqb (ownerAt d c) x) f in
-        record { judged = judged d x (eqb-true (judgeOf d x) 0 e); below = ltb-true c (cap (d .store)) (k .0); byte = eqb-true (ownerAt d c) x (k .1) }
+        record { judged = judged d x (eqb-true (itemRefusal d x) 0 e); below = ltb-true c (cap (d .store)) (k .0); byte = eqb-true (ownerAt d c) x (k .1) }
     go true e false f q = absurd (omega (arith, q))
-    go false e b f q = absurd (true≢false (sym (eq-eqb (judgeOf d x) 0 q) ∙ e))
+    go false e b f q = absurd (true≢false (sym (eq-eqb (itemRefusal d x) 0 q) ∙ e))
 
 -- ---- the calls
 
 module _ (d : Directory) (N : ℕ) where
-  pub open-refused : {r : ℕ} → r ≡ roomRefusal (length (d .store)) (length (d .owners)) N → r ≢ 0
+  pub directory-refused : {r : ℕ} → r ≡ roomRefusal (length (d .store)) (length (d .owners)) N → r ≢ 0
       → Settled didPaper (directoryOpenOf d N) (DidRefused r) d
   unfolding directoryOpenOf
-  open-refused {r} e n = settled (rw (← e, ne-eqb r 0 n))
+  directory-refused {r} e n = settled (rw (← e, ne-eqb r 0 n))
 
-  pub open-done : roomRefusal (length (d .store)) (length (d .owners)) N ≡ 0 → (t o : List ℕ) → t ≡ openOf (d .store) N .lent
+  pub directory-done : roomRefusal (length (d .store)) (length (d .owners)) N ≡ 0 → (t o : List ℕ) → t ≡ openOf (d .store) N .lent
       → o ≡ replicate (length (d .owners)) 0 → Settled didPaper (directoryOpenOf d N) Done (directory t o)
   unfolding directoryOpenOf
-  open-done h t o e f =
+  directory-done h t o e f =
       let l = room-in (length (d .store)) (length (d .owners)) N h .1 in
       settled (rw h (ap does (ap₂ directory (sym e) (sym (f ∙ ap (λ (n : ℕ). replicate n 0) l)))))
 
 module _ (d : Directory) (x : ℕ) where
-  pub give-refused : {r : ℕ} → r ≡ judgeOf d x → r ≢ 0 → Settled foundPaper (giveOf d x) (FoundRefused r) d
+  pub give-refused : {r : ℕ} → r ≡ itemRefusal d x → r ≢ 0 → Settled foundPaper (giveOf d x) (FoundRefused r) d
   unfolding giveOf
   give-refused {r} e n = settled (rw (← e, ne-eqb r 0 n))
 
-  module _ (h : judgeOf d x ≡ 0) where
+  module _ (h : itemRefusal d x ≡ 0) where
     -- the chunk found has room, and a byte
     pub found-at : {c : ℕ} → Settled foundPaper (firstFreeOf (d .store)) (At c) tt → LowestFree (d .store) c
     found-at {c} f = free-found (d .store) (store-is (judged d x h .is)) c (ap (λ (l : List ℕ). record { numbers = l; lent = tt }) (sym (f .answer)))
@@ -177,14 +177,14 @@ module _ (d : Directory) (x : ℕ) where
     give-full {r} f =
         settled (rw (h, ← f .answer, ne-eqb r 0 some))
       where
-        first : r ≡ refusalOf (firstFreeOf (d .store))
+        first : r ≡ refusalNumber (firstFreeOf (d .store))
         first = ap (λ (l : List ℕ). getD l 0 0) (f .answer)
 
         some : r ≢ 0
         some e =
             ⊎-elim
             (λ (g : (i : ℕ) × (firstFreeOf (d .store) ≡ gives i tt)). omega (arith, ap length (f .answer ∙ ap (λ (o : Outcome (Unit {0})). o .numbers) (g .1))))
-            (λ g. omega (arith, first ∙ ap refusalOf g))
+            (λ g. omega (arith, first ∙ ap refusalNumber g))
             (free-told (d .store) (store-is (judged d x h .is)))
 
 module _ (d : Directory) (x c : ℕ) where

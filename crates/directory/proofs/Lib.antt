@@ -1,1 +1,4 @@
 pub mod Answers
+pub mod Accepted
+pub mod History
+pub mod Witnesses

@@ -24,8 +24,8 @@ abbrev pub ownerAt : Directory → ℕ → ℕ
 ownerAt d i = getD (d .owners) i 0
 
 -- an outcome's refusal, 0 for none, and its value
-abbrev pub refusalOf : {X : Type 0} → Outcome X → ℕ
-refusalOf o = getD (o .numbers) 0 0
+abbrev pub refusalNumber : {X : Type 0} → Outcome X → ℕ
+refusalNumber o = getD (o .numbers) 0 0
 
 abbrev pub valueOf : {X : Type 0} → Outcome X → ℕ
 valueOf o = getD (o .numbers) 1 0
@@ -45,13 +45,13 @@ unfoldable pub roomRefusal : ℕ → ℕ → ℕ → ℕ
 roomRefusal words bytes N = let r = openRefusal N words in cond (eqb r 0) (cond (eqb bytes N) 0 13) r
 
 -- the others: "after 2, owner bytes not N long 13, item number out of range 14"
-unfoldable pub judgeOf : Directory → ℕ → ℕ
-judgeOf d x = cond (isStore (d .store)) (cond (eqb (length (d .owners)) (cap (d .store))) (cond (isItem x) 0 14) 13) 2
+unfoldable pub itemRefusal : Directory → ℕ → ℕ
+itemRefusal d x = cond (isStore (d .store)) (cond (eqb (length (d .owners)) (cap (d .store))) (cond (isItem x) 0 14) 13) 2
 
 -- "return of a chunk at or past N or whose owner byte is not that item 15"
 unfoldable pub returnRefusal : Directory → ℕ → ℕ → ℕ
 returnRefusal d x c =
-    let r = judgeOf d x in
+    let r = itemRefusal d x in
     cond (eqb r 0) (cond (ltb c (cap (d .store)) && eqb (ownerAt d c) x) 0 15) r
 
 -- ---- the calls
@@ -66,7 +66,7 @@ unfoldable pub giveOf : Directory → ℕ → Outcome Directory
 giveOf d x =
     let f = firstFreeOf (d .store) in
     let c = valueOf f in
-    unless (judgeOf d x) d (unless (refusalOf f) d (gives c (directory (addOf (d .store) c .lent) (set (d .owners) c x))))
+    unless (itemRefusal d x) d (unless (refusalNumber f) d (gives c (directory (addOf (d .store) c .lent) (set (d .owners) c x))))
 
 -- "return needs the item that owns it .. return removes the chunk and zeroes its byte"
 unfoldable pub takeBackOf : Directory → ℕ → ℕ → Outcome Directory

@@ -11,7 +11,7 @@ use Rattle.util.specs.Outcome.{Outcome}
 use Rattle.store.specs.Layout.{cap}
 use Rattle.store.specs.Word.{Member, countBelow, SoundStore}
 use Rattle.set_free.specs.Calls.{searchStart}
-use Rattle.directory.specs.Calls.{Directory, ownerAt, refusalOf, valueOf, isItem, directoryOpenOf, giveOf, takeBackOf}
+use Rattle.directory.specs.Calls.{Directory, ownerAt, refusalNumber, valueOf, isItem, directoryOpenOf, giveOf, takeBackOf}
 
 -- one of the three calls, with any arguments
 pub data DirectoryCall : Type 0 where
@@ -43,14 +43,14 @@ abbrev pub ownedBy : (ℕ → ℕ) → ℕ → ℕ → ℕ → ℕ
 ownedBy f c x i = cond (eqb i c) x (f i)
 
 -- a call that was accepted, with the value of its answer
-abbrev pub accepted : Figures → DirectoryCall → ℕ → Figures
-accepted f (opening n) v = record { opened = true; given = 0; returned = 0; owner = λ i. 0 }
-accepted f (giving x) v = record { opened = f .opened; given = suc (f .given); returned = f .returned; owner = ownedBy (f .owner) v x }
-accepted f (returning x c) v = record { opened = f .opened; given = f .given; returned = suc (f .returned); owner = ownedBy (f .owner) c 0 }
+abbrev pub afterAccepted : Figures → DirectoryCall → ℕ → Figures
+afterAccepted f (opening n) v = record { opened = true; given = 0; returned = 0; owner = λ i. 0 }
+afterAccepted f (giving x) v = record { opened = f .opened; given = suc (f .given); returned = f .returned; owner = ownedBy (f .owner) v x }
+afterAccepted f (returning x c) v = record { opened = f .opened; given = f .given; returned = suc (f .returned); owner = ownedBy (f .owner) c 0 }
 
 -- one that was refused counts nothing
-abbrev pub counted : Figures → DirectoryCall → Outcome Directory → Figures
-counted f k o = cond (eqb (refusalOf o) 0) (accepted f k (valueOf o)) f
+abbrev pub figuresAfter : Figures → DirectoryCall → Outcome Directory → Figures
+figuresAfter f k o = cond (eqb (refusalNumber o) 0) (afterAccepted f k (valueOf o)) f
 
 -- ---- calls in a row, each on what the one before it left
 
@@ -58,9 +58,12 @@ pub record History : Type 0 where
   pub now : Directory
   pub figures : Figures
 
-unfoldable pub goOnWith : History → List DirectoryCall → History
+abbrev pub oneMore : History → DirectoryCall → History
+oneMore h k = let o = outcomeOf (h .now) k in record { now = o .lent; figures = figuresAfter (h .figures) k o }
+
+abbrev pub goOnWith : History → List DirectoryCall → History
 goOnWith h [] = h
-goOnWith h (k ∷ ks) = let o = outcomeOf (h .now) k in goOnWith (record { now = o .lent; figures = counted (h .figures) k o }) ks
+goOnWith h (k ∷ ks) = goOnWith (oneMore h k) ks
 
 -- from any slices
 abbrev pub historyOf : Directory → List DirectoryCall → History
@@ -74,15 +77,15 @@ pub record Owns (d : Directory) (x i : ℕ) : Type 0 where
   pub byte : ownerAt d i ≡ x
 
 -- the number of members
-abbrev pub taken : Directory → ℕ
-taken d = let s = d .store in countBelow (cap s) s (cap s)
+abbrev pub chunksTaken : Directory → ℕ
+chunksTaken d = let s = d .store in countBelow (cap s) s (cap s)
 
-pub record Kept (h : History) : Type 0 where
+pub record InOrder (h : History) : Type 0 where
   -- the store is sound, and has one byte per chunk
   pub sound : SoundStore (cap (h .now .store)) (h .now .store)
   pub long : length (h .now .owners) ≡ cap (h .now .store)
   -- "chunks given less chunks returned since the last opening .. equals the number of members"
-  pub balance : h .figures .given ≡ h .figures .returned + taken (h .now)
+  pub balance : h .figures .given ≡ h .figures .returned + chunksTaken (h .now)
   -- "each member has one owner", and what is no member has none: its byte is 0
   pub owned : (i : ℕ) → Member (h .now .store) i ↔ ((x : ℕ) × Owns (h .now) x i)
   pub one : (x y i : ℕ) → Owns (h .now) x i → Owns (h .now) y i → x ≡ y
@@ -97,7 +100,7 @@ pub record Kept (h : History) : Type 0 where
 -- whether a call gave a chunk
 abbrev pub gave : DirectoryCall → Outcome Directory → Bool
 gave (opening n) o = false
-gave (giving x) o = eqb (refusalOf o) 0
+gave (giving x) o = eqb (refusalNumber o) 0
 gave (returning x c) o = false
 
 -- none of the calls in a row does
@@ -109,4 +112,4 @@ NoneGiven d (k ∷ ks) = let o = outcomeOf d k in (gave k o ≡ false) × NoneGi
 abbrev pub UsedAgain : Directory → ℕ → Type 0
 UsedAgain d c =
     (ks : List DirectoryCall) (x : ℕ) → let e = historyOf d ks .now in
-    NoneGiven d ks → refusalOf (giveOf e x) ≡ 0 → valueOf (giveOf e x) ≤ c
+    NoneGiven d ks → refusalNumber (giveOf e x) ≡ 0 → valueOf (giveOf e x) ≤ c

@@ -7,7 +7,7 @@ ghost use Rattle.util.specs.Outcome.{Settled};
 ghost use Rattle.store.specs.Answer.{didPaper, foundPaper};
 ghost use Rattle.set_edit.specs.Calls.{addOf, removeOf};
 ghost use Rattle.set_whole.specs.Calls.{openOf};
-ghost use Rattle.directory.specs.Calls.{directory, isItem, judgeOf, roomRefusal, returnRefusal, directoryOpenOf, giveOf, takeBackOf};
+ghost use Rattle.directory.specs.Calls.{directory, isItem, itemRefusal, roomRefusal, returnRefusal, directoryOpenOf, giveOf, takeBackOf};
 use store::Did;
 use store::Found;
 
@@ -37,7 +37,7 @@ fn judge_open(words: usize, bytes: usize, n: usize) -> u32
 
 // What stands in the way of a call for an item: 0 for nothing, or the refusal's number.
 fn judge(store: &[u64], owners: &[u8], item: u32) -> u32
-    ensures { λ r. ⌜ r ≡ judgeOf (directory (now (store .entry)) (now (owners .entry))) item ⌝ }
+    ensures { λ r. ⌜ r ≡ itemRefusal (directory (now (store .entry)) (now (owners .entry))) item ⌝ }
 {
     let n = store::capacity(store);
     if n == 0 {

@@ -17,7 +17,7 @@ use Rattle.store.proofs.Members.{own}
 use Rattle.set_edit.specs.Calls.{moveOf}
 use Rattle.set_edit.proofs.Edits.{store-moved}
 use Rattle.set_laws.proofs.Theorems.{move-leaves, sound-after-add, sound-after-remove}
-use Rattle.set_whole.specs.Calls.{openOf}
+use Rattle.set_whole.specs.Calls.{openRefusal, openOf}
 use Rattle.set_whole.proofs.Theorems.{opened}
 use Rattle.listing_line.specs.declared.Command.{Command}
 use Rattle.listing_line.specs.declared.Command.the-variants.{Add, Remove, Contains, List as Members, Unknown}
@@ -48,7 +48,7 @@ good-opened = let o = opened 262144 (omega arith) (omega arith) .0 in record { s
 
 -- what opening leaves of 4,163 words, and so what lines leave of it
 pub good-open : (s : List ℕ) → 4163 ≡ length s → {r : Did} {t : List ℕ} → Settled didPaper (openOf s 262144) r t → Good t
-unfolding openOf isCap
+unfolding openOf openRefusal isCap
 good-open s l {t = t} a =
     let n : storeLen 262144 ≡ 4163 = length-is 262144 (omega arith) (omega arith) in
     let e : openOf s 262144 .lent ≡ listingStore = rw (eq-eqb (length s) (storeLen 262144) (sym (n ∙ l))) in

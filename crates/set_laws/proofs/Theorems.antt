@@ -79,10 +79,22 @@ module _ (b : Bool) (past : Outcome (List ℕ)) where
 pub sound-after-add : (s : List ℕ) (i : ℕ) → Sound (cap s) s → Sound (cap (addOf s i .lent)) (addOf s i .lent)
 sound-after-add s i z = sound-after true (refuses 3 s) s i refl z
 
+pub fine-after-add : {N : ℕ} {s : List ℕ} → SoundStore N s → (i : ℕ) → SoundStore N (addOf s i .lent)
+fine-after-add {s = s} f i = fine-after true (refuses 3 s) f i refl
+
+pub cap-after-add : (s : List ℕ) (i : ℕ) → cap (addOf s i .lent) ≡ cap s
+cap-after-add s i = cap-after true (refuses 3 s) s i refl
+
 -- ---- `remove` keeps soundness; its members are those before but for the id
 
 pub sound-after-remove : (s : List ℕ) (i : ℕ) → Sound (cap s) s → Sound (cap (removeOf s i .lent)) (removeOf s i .lent)
 sound-after-remove s i z = sound-after false (says false s) s i refl z
+
+pub fine-after-remove : {N : ℕ} {s : List ℕ} → SoundStore N s → (i : ℕ) → SoundStore N (removeOf s i .lent)
+fine-after-remove {s = s} f i = fine-after false (says false s) f i refl
+
+pub cap-after-remove : (s : List ℕ) (i : ℕ) → cap (removeOf s i .lent) ≡ cap s
+cap-after-remove s i = cap-after false (says false s) s i refl
 
 -- a member afterwards
 module _ (b : Bool) (past : Outcome (List ℕ)) (s : List ℕ) (i j : ℕ) (h : isStore s ≡ true) (g : i < cap s) where

@@ -7,7 +7,7 @@ use Rattle.store.specs.Answer.{foundPaper}
 use Rattle.store.specs.declared.Found.{Found}
 use Rattle.store.specs.declared.Found.the-variants.{At, Refused}
 use Rattle.set_free.specs.Calls.{firstFreeOf}
-use Rattle.directory.specs.Calls.{directory, judgeOf}
+use Rattle.directory.specs.Calls.{directory, itemRefusal}
 use Rattle.directory.proofs.Answers.{judged, item-in, found-byte, give-refused, give-done, give-full}
 use Rattle.directory.proofs.give.Statement.{statement}
 use Rattle.directory.proofs.give.Tie as tie
@@ -27,7 +27,7 @@ returns c = give-refused _ _ (c .before .judge .ensures) (c .if1 .taken)
 -- past the test nothing stands in the way of the item
 goes-on : (c : tie.Else1)
     → let a = c .before .before .before .before .before .before .args in
-    judgeOf (directory (a .store .now) (a .owners .now)) (a .item) ≡ 0
+    itemRefusal (directory (a .store .now) (a .owners .now)) (a .item) ≡ 0
 goes-on c = sym (c .before .judge .ensures) ∙ c .if1 .left
 
 first-free-requires : tie.Need-first-free-requires

@@ -2,7 +2,7 @@
 use mathlib.Core.Path.{_≡_, sym, _∙_}
 use native.Mathlib.Omega.{arith}
 use borrow.Author.Needs.{needs}
-use Rattle.directory.specs.Calls.{directory, judgeOf}
+use Rattle.directory.specs.Calls.{directory, itemRefusal}
 use Rattle.directory.proofs.Answers.{return-judge, return-past, return-0, return-15}
 use Rattle.directory.proofs.judge_return.Statement.{statement}
 use Rattle.directory.proofs.judge_return.Tie as tie
@@ -14,7 +14,7 @@ returns : tie.Need-returns
 returns c = return-judge _ _ _ (c .before .judge .ensures) (c .if1 .taken)
 
 -- past the first test nothing stands in the way of the item
-goes-on : (c : tie.Else1) → let a = c .before .before .before .before .args in judgeOf (directory (a .store .now) (a .owners .now)) (a .item) ≡ 0
+goes-on : (c : tie.Else1) → let a = c .before .before .before .before .args in itemRefusal (directory (a .store .now) (a .owners .now)) (a .item) ≡ 0
 goes-on c = sym (c .before .judge .ensures) ∙ c .if1 .left
 
 shared-slice-read-if3 : tie.Need-shared-slice-read-if3

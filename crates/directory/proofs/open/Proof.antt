@@ -1,7 +1,7 @@
 -- `open` meets its contract. Assumes nothing.
 use mathlib.Core.Path.{_≡_, sym, _∙_}
 use borrow.Author.Needs.{needs}
-use Rattle.directory.proofs.Answers.{open-refused, open-done}
+use Rattle.directory.proofs.Answers.{directory-refused, directory-done}
 use Rattle.directory.proofs.open.Statement.{statement}
 use Rattle.directory.proofs.open.Tie as tie
 
@@ -9,7 +9,7 @@ judge-open-requires : tie.Need-judge-open-requires
 judge-open-requires c κs = search needs
 
 returns : tie.Need-returns
-returns c = open-refused _ _ (c .before .judge-open .ensures) (c .if1 .taken)
+returns c = directory-refused _ _ (c .before .judge-open .ensures) (c .if1 .taken)
 
 open-requires : tie.Need-open-requires
 open-requires c κs = search needs
@@ -28,7 +28,7 @@ returns-2 c =
     let z = c .before .before in
     let o = z .before .before .before .before in
     let e = o .before .before in
-    open-done _ _ (sym (e .before .judge-open .ensures) ∙ e .if1 .left) _ _ (o .«open» .ensures .memory) (z .zero .ensures)
+    directory-done _ _ (sym (e .before .judge-open .ensures) ∙ e .if1 .left) _ _ (o .«open» .ensures .memory) (z .zero .ensures)
 
 pub open-spec : {M : Type 1} → statement M
 open-spec =

@@ -1,0 +1,88 @@
+-- NO CLAIM IS EMPTY: slices of the right lengths are opened, and then a chunk is given and returned.
+use mathlib.Core.Bool.{Bool, true}
+use mathlib.Core.List.{[], _∷_}
+use mathlib.Core.Logic.{⊎-elim}
+use mathlib.Core.Path.{_≡_, refl, sym, ap, _∙_, subst}
+use Prim.Native.Nat.{ℕ, _≤_, _<_}
+use native.Mathlib.Omega.{arith}
+use borrow.Author.Tests.{eq-eqb}
+use lib.Dec.{eqb}
+use lib.ListN.{length}
+use Rattle.util.specs.Outcome.{Outcome}
+use Rattle.store.specs.Answer.{gives, refuses}
+use Rattle.store.specs.Layout.{cap}
+use Rattle.store.specs.Word.{Member}
+use Rattle.store.proofs.Geometry.{is-store}
+use Rattle.set_free.specs.Calls.{searchStart, firstFreeOf}
+use Rattle.set_free.proofs.Lowest.{free-told, free-none}
+use Rattle.set_whole.proofs.Theorems.{opened-by}
+use Rattle.directory.specs.Calls.{Directory, ownerAt, refusalNumber, valueOf, isItem, roomRefusal, itemRefusal, returnRefusal, directoryOpenOf, giveOf, takeBackOf}
+use Rattle.directory.specs.History.{historyOf, InOrder}
+use Rattle.directory.specs.History.DirectoryCall.{opening, giving}
+use Rattle.directory.proofs.Answers.{room-in, judge-0, return-0}
+use Rattle.directory.proofs.History.{in-order}
+
+module _ (d : Directory) (N : ℕ) (room : roomRefusal (length (d .store)) (length (d .owners)) N ≡ 0) where
+  pub some-opens : historyOf d (opening N ∷ []) .figures .opened ≡ true
+  unfolding directoryOpenOf
+  some-opens = rw (eq-eqb (roomRefusal (length (d .store)) (length (d .owners)) N) 0 room)
+
+  -- no chunk is taken then
+  opened-free : (i : ℕ) → Member (historyOf d (opening N ∷ []) .now .store) i → ⊥
+  unfolding directoryOpenOf
+  opened-free =
+      rw (eq-eqb (roomRefusal (length (d .store)) (length (d .owners)) N) 0 room)
+      (opened-by (d .store) N (room-in (length (d .store)) (length (d .owners)) N room .0) .1)
+
+  opened-cap : cap (historyOf d (opening N ∷ []) .now .store) ≡ N
+  unfolding directoryOpenOf
+  opened-cap =
+      rw (eq-eqb (roomRefusal (length (d .store)) (length (d .owners)) N) 0 room)
+      (opened-by (d .store) N (room-in (length (d .store)) (length (d .owners)) N room .0) .0 .is .names)
+
+  module _ (some : searchStart < N) (x : ℕ) (item : isItem x ≡ true) where
+    abbrev e : Directory
+    e = historyOf d (opening N ∷ []) .now
+
+    pub some-given : refusalNumber (giveOf e x) ≡ 0
+    unfolding giveOf
+    some-given = rw (ready, found) refl
+      where
+        h : InOrder (historyOf d (opening N ∷ []))
+        h = in-order d (opening N ∷ []) some-opens
+
+        ready : itemRefusal e x ≡ 0
+        ready = sym (judge-0 (e .store) (e .owners) x (is-store (h .sound .is)) (h .long) item)
+
+        found : refusalNumber (firstFreeOf (e .store)) ≡ 0
+        found =
+            ⊎-elim
+            (λ (g : (i : ℕ) × (firstFreeOf (e .store) ≡ gives i tt)). ap refusalNumber (g .1))
+            (λ (g : firstFreeOf (e .store) ≡ refuses 12 tt). absurd (opened-free searchStart (free-none (e .store) (h .sound .is) .0 g searchStart (omega arith) (omega (arith, opened-cap)))))
+            (free-told (e .store) (h .sound .is))
+
+    abbrev c : ℕ
+    c = valueOf (giveOf e x)
+
+    -- and the chunk given is the item's, which may return it
+    pub some-returned : refusalNumber (takeBackOf (giveOf e x .lent) x c) ≡ 0
+    unfolding takeBackOf
+    some-returned = rw (sym (return-0 u x c ready below byte)) refl
+      where
+        u : Directory
+        u = giveOf e x .lent
+
+        opened : historyOf d (opening N ∷ giving x ∷ []) .figures .opened ≡ true
+        opened = rw some-given some-opens
+
+        h : InOrder (historyOf d (opening N ∷ giving x ∷ []))
+        h = in-order d (opening N ∷ giving x ∷ []) opened
+
+        byte : ownerAt u c ≡ x
+        byte = h .told c ∙ rw (some-given, eq-eqb c c refl) refl
+
+        below : c < length (u .owners)
+        below = omega (arith, h .owned c .1 (x, record { item = item; byte = byte }) .below, h .long)
+
+        ready : itemRefusal u x ≡ 0
+        ready = sym (judge-0 (u .store) (u .owners) x (is-store (h .sound .is)) (h .long) item)
