@@ -26,7 +26,7 @@ extern "C" {
 #endif
 
 /* The version: 100 * 100 * major + 100 * minor + patch. FEN_VERSION is the header's, fen_version answers the archive's. */
-#define FEN_VERSION 100
+#define FEN_VERSION 200
 uint64_t fen_version(void);
 
 enum {
@@ -42,7 +42,10 @@ enum {
     FEN_NO_MAP = 9,       /* map: header wrong, or too short */
     FEN_BAD_ENTRY = 10,   /* map: an entry is wrong */
     FEN_BAD_COUNT = 11,   /* map: the count of members is wrong */
-    FEN_NONE_FREE = 12    /* no id is free */
+    FEN_NONE_FREE = 12,   /* no id is free */
+    FEN_BAD_OWNERS = 13,  /* directory: not as many owner bytes as the capacity */
+    FEN_NO_ITEM = 14,     /* directory: item 0 or above 200 */
+    FEN_NOT_OWNER = 15    /* directory: the chunk is at or past the capacity, or its owner is not the item */
 };
 
 /* A refusal as text, never null. */
@@ -62,6 +65,9 @@ static inline const char *fen_refusal_text(uint64_t refusal)
         "an entry of the map is wrong",
         "the map's count of members is wrong",
         "no id is free",
+        "the owner bytes are not as many as the capacity",
+        "the item is 0 or above 200",
+        "the item does not own the chunk",
     };
     return refusal < sizeof texts / sizeof *texts ? texts[refusal] : "unknown refusal";
 }
@@ -237,6 +243,24 @@ fen_answer fen_map_length(const uint64_t *store, size_t len);
 fen_answer fen_map_read(const uint8_t *map, size_t length, uint64_t *store, size_t len);
 /* The capacity that a map names, so that a store for it can be opened. Refusal 9, exactly where fen_map_read gives it. */
 fen_answer fen_map_capacity(const uint8_t *map, size_t length);
+
+/* ---- a directory over a store
+ * Chunks are the ids of a store, and are given to items, numbered 1 to 200. For each chunk a byte says which item owns it, 0 for none. The
+ * store and its `count` bytes are always lent together; `count` is the capacity.
+ *
+ * The caller sees to it that between an opening and the last call no other call changes the store or the bytes. Then chunks given less chunks
+ * returned since the opening are as many as the members, and each member has one owner; else these figures say nothing. Every call that only
+ * reads a store may read this one in between, so it can be walked.
+ *
+ * Where store and bytes disagree: giving goes by the store alone and writes over the byte, whatever it was; a return whose byte is right goes
+ * through, also of a chunk that is no member; a member whose byte is 0 cannot be returned. */
+
+/* Makes `len` words an empty store of capacity n, and all bytes 0. Refusals 1, 2, 13. */
+fen_answer fen_directory_open(uint64_t *store, size_t len, uint8_t *owners, size_t count, uint32_t n);
+/* Gives the lowest free chunk to an item, so that returned chunks are used again. Value: the chunk. Refusals 2, 13, 14, 12. */
+fen_answer fen_directory_give(uint64_t *store, size_t len, uint8_t *owners, size_t count, uint32_t item);
+/* Takes a chunk back from the item that owns it. It is free then, and its byte 0. Refusals 2, 13, 14, 15. */
+fen_answer fen_directory_return(uint64_t *store, size_t len, uint8_t *owners, size_t count, uint32_t item, uint32_t chunk);
 
 #ifdef __cplusplus
 }

@@ -90,18 +90,19 @@ static void sizes(void)
 
 static void names(void)
 {
-    const uint64_t named[] = {FEN_OK,        FEN_NO_CAPACITY,  FEN_NO_STORE, FEN_NO_ROOM,   FEN_NO_LAYER,  FEN_DIFFER,   FEN_NO_FORMULA,
-                              FEN_NO_CURSOR, FEN_SHORT_BUFFER, FEN_NO_MAP,   FEN_BAD_ENTRY, FEN_BAD_COUNT, FEN_NONE_FREE};
+    const uint64_t named[] = {FEN_OK,         FEN_NO_CAPACITY, FEN_NO_STORE,     FEN_NO_ROOM,   FEN_NO_LAYER,  FEN_DIFFER,
+                              FEN_NO_FORMULA, FEN_NO_CURSOR,   FEN_SHORT_BUFFER, FEN_NO_MAP,    FEN_BAD_ENTRY, FEN_BAD_COUNT,
+                              FEN_NONE_FREE,  FEN_BAD_OWNERS,  FEN_NO_ITEM,      FEN_NOT_OWNER};
     uint64_t i, j;
-    CHECK(fen_version() == FEN_VERSION && FEN_VERSION == 100 * 100 * 0 + 100 * 1 + 0);
-    CHECK(sizeof named / sizeof *named == 13);
-    for (i = 0; i < 13; i++) {
+    CHECK(fen_version() == FEN_VERSION && FEN_VERSION == 100 * 100 * 0 + 100 * 2 + 0);
+    CHECK(sizeof named / sizeof *named == 16);
+    for (i = 0; i < 16; i++) {
         CHECK(named[i] == i && strcmp(fen_refusal_text(i), "unknown refusal") != 0);
         for (j = 0; j < i; j++)
             CHECK(strcmp(fen_refusal_text(i), fen_refusal_text(j)) != 0);
     }
     CHECK(strcmp(fen_refusal_text(FEN_NO_ROOM), "an id is at or past the capacity") == 0);
-    CHECK(strcmp(fen_refusal_text(13), "unknown refusal") == 0 && strcmp(fen_refusal_text(UINT64_MAX), "unknown refusal") == 0);
+    CHECK(strcmp(fen_refusal_text(16), "unknown refusal") == 0 && strcmp(fen_refusal_text(UINT64_MAX), "unknown refusal") == 0);
     CHECK(FEN_REFUSED == 0 && FEN_MEMBER == 1 && FEN_PAUSED == 2 && FEN_END == 3 && FEN_FULL == 4);
 }
 
@@ -359,6 +360,124 @@ static void map_lengths(void)
     CHECK(says(fen_clear(b, L), 0));
 }
 
+/* A directory of 4 chunks: its store, and eight bytes, of which four are lent. */
+static struct directory {
+    uint64_t store[FOUR];
+    uint8_t owners[8];
+} dir, dir_was;
+
+#define DIRECTORY dir.store, FOUR, dir.owners, 4
+
+static int dir_kept(void)
+{
+    return memcmp(&dir_was, &dir, sizeof dir) == 0;
+}
+
+/* Which chunks are members, and the bytes of the four; the bytes behind them stay. */
+static int dir_is(uint64_t members, uint8_t o0, uint8_t o1, uint8_t o2, uint8_t o3)
+{
+    const uint64_t above = members != 0, store[FOUR] = {4, above, above, above, members};
+    const uint8_t owners[8] = {o0, o1, o2, o3, 7, 7, 7, 7};
+    return memcmp(dir.store, store, sizeof store) == 0 && memcmp(dir.owners, owners, sizeof owners) == 0;
+}
+
+/* Each refusal, with all that is asked after it wrong too. */
+static void directory_refusals(void)
+{
+    memset(&dir, 7, sizeof dir);
+    dir_was = dir;
+    CHECK(refuses(fen_directory_open(dir.store, 1, dir.owners, 1, 0), FEN_NO_CAPACITY));
+    CHECK(refuses(fen_directory_open(dir.store, 1, dir.owners, 1, 16777217), FEN_NO_CAPACITY));
+    CHECK(refuses(fen_directory_open(dir.store, FOUR - 1, dir.owners, 3, 4), FEN_NO_STORE));
+    CHECK(refuses(fen_directory_open(dir.store, FOUR, dir.owners, 4, 65), FEN_NO_STORE));
+    CHECK(refuses(fen_directory_open(dir.store, FOUR, dir.owners, 3, 4), FEN_BAD_OWNERS));
+    CHECK(refuses(fen_directory_open(dir.store, FOUR, dir.owners, 5, 4), FEN_BAD_OWNERS));
+    CHECK(refuses(fen_directory_give(dir.store, FOUR, dir.owners, 3, 0), FEN_NO_STORE)); /* not opened yet */
+    CHECK(refuses(fen_directory_return(dir.store, FOUR, dir.owners, 3, 0, 4), FEN_NO_STORE));
+    CHECK(dir_kept());
+    CHECK(says(fen_directory_open(DIRECTORY, 4), 0) && dir_is(0, 0, 0, 0, 0));
+    CHECK(says(fen_directory_give(DIRECTORY, 1), 0) && says(fen_directory_give(DIRECTORY, 200), 1));
+    CHECK(says(fen_directory_give(DIRECTORY, 2), 2) && says(fen_directory_give(DIRECTORY, 1), 3));
+    dir_was = dir;
+    CHECK(refuses(fen_directory_give(dir.store, FOUR - 1, dir.owners, 3, 0), FEN_NO_STORE));
+    CHECK(refuses(fen_directory_give(dir.store, FOUR, dir.owners, 3, 0), FEN_BAD_OWNERS));
+    CHECK(refuses(fen_directory_give(dir.store, FOUR, dir.owners, 5, 0), FEN_BAD_OWNERS));
+    CHECK(refuses(fen_directory_give(DIRECTORY, 0), FEN_NO_ITEM) && refuses(fen_directory_give(DIRECTORY, 201), FEN_NO_ITEM));
+    CHECK(refuses(fen_directory_give(DIRECTORY, 257), FEN_NO_ITEM) && refuses(fen_directory_give(DIRECTORY, UINT32_MAX), FEN_NO_ITEM));
+    CHECK(refuses(fen_directory_give(DIRECTORY, 1), FEN_NONE_FREE) && refuses(fen_directory_give(DIRECTORY, 200), FEN_NONE_FREE));
+    CHECK(refuses(fen_directory_return(dir.store, FOUR - 1, dir.owners, 3, 0, 4), FEN_NO_STORE));
+    CHECK(refuses(fen_directory_return(dir.store, FOUR, dir.owners, 3, 0, 4), FEN_BAD_OWNERS));
+    CHECK(refuses(fen_directory_return(dir.store, FOUR, dir.owners, 5, 0, 4), FEN_BAD_OWNERS));
+    CHECK(refuses(fen_directory_return(DIRECTORY, 0, 4), FEN_NO_ITEM) && refuses(fen_directory_return(DIRECTORY, 201, 4), FEN_NO_ITEM));
+    CHECK(refuses(fen_directory_return(DIRECTORY, 257, 0), FEN_NO_ITEM)); /* 1, as a byte */
+    CHECK(refuses(fen_directory_return(DIRECTORY, 2, 1), FEN_NOT_OWNER) && refuses(fen_directory_return(DIRECTORY, 7, 4), FEN_NOT_OWNER));
+    CHECK(refuses(fen_directory_return(DIRECTORY, 1, UINT32_MAX), FEN_NOT_OWNER));
+    CHECK(dir_kept() && dir_is(15, 1, 200, 2, 1));
+}
+
+/* What is returned is free and given again, and in between the store is read like any other. */
+static void directory_calls(void)
+{
+    uint32_t out[5];
+    fen_cursor at = {{0}, {0}, 0};
+    CHECK(says(fen_directory_return(DIRECTORY, 2, 2), 0) && dir_is(11, 1, 200, 0, 1));
+    CHECK(refuses(fen_directory_return(DIRECTORY, 2, 2), FEN_NOT_OWNER) && dir_is(11, 1, 200, 0, 1));
+    CHECK(says(fen_directory_return(DIRECTORY, 1, 0), 0) && dir_is(10, 0, 200, 0, 1));
+    CHECK(says(fen_is_sound(dir.store, FOUR), 1) && steps(fen_start(dir.store, FOUR, &at), FEN_PAUSED, 0));
+    CHECK(steps(fen_fill(dir.store, FOUR, &at, 9, out, 5), FEN_END, 2) && out[0] == 1 && out[1] == 3);
+    CHECK(says(fen_directory_give(DIRECTORY, 3), 0) && dir_is(11, 3, 200, 0, 1));
+    CHECK(says(fen_directory_give(DIRECTORY, 4), 2) && dir_is(15, 3, 200, 4, 1));
+    CHECK(refuses(fen_directory_give(DIRECTORY, 4), FEN_NONE_FREE));
+    CHECK(says(fen_directory_open(DIRECTORY, 4), 0) && dir_is(0, 0, 0, 0, 0));
+}
+
+/* Many calls on 65 chunks: each gives the lowest free one, and those given less those returned are the members, each with its owner. */
+static void directory_figures(void)
+{
+    static uint64_t store[L];
+    static uint8_t owners[N], told[N];
+    uint64_t given = 0, returned = 0;
+    uint32_t out[N + 1], turn, item, chunk;
+    fen_cursor at = {{0}, {0}, 0};
+    CHECK(says(fen_directory_open(store, L, owners, N, N), 0));
+    for (turn = 0; turn < 880; turn++) {
+        item = turn % 200 + 1;
+        chunk = turn * turn % N;
+        if (turn / 100 % 3 == 2 && told[chunk] != 0) {
+            CHECK(says(fen_directory_return(store, L, owners, N, told[chunk], chunk), 0));
+            told[chunk] = 0;
+            returned++;
+        } else if (given - returned < N) {
+            for (chunk = 0; told[chunk] != 0;)
+                chunk++;
+            CHECK(says(fen_directory_give(store, L, owners, N, item), chunk));
+            told[chunk] = (uint8_t)item;
+            given++;
+        } else {
+            CHECK(refuses(fen_directory_give(store, L, owners, N, item), FEN_NONE_FREE));
+        }
+        CHECK(memcmp(owners, told, N) == 0);
+    }
+    CHECK(returned > 100 && given - returned < N && says(fen_is_sound(store, L), 1));
+    CHECK(steps(fen_start(store, L, &at), FEN_PAUSED, 0) && steps(fen_fill(store, L, &at, 9, out, N + 1), FEN_END, given - returned));
+    for (turn = 0; turn < given - returned; turn++)
+        CHECK(owners[out[turn]] != 0);
+}
+
+/* Store and bytes that disagree, since other calls have changed them. */
+static void directory_disagrees(void)
+{
+    CHECK(says(fen_add(dir.store, FOUR, 0), 0)); /* a member, and its byte is 0 */
+    CHECK(refuses(fen_directory_return(DIRECTORY, 1, 0), FEN_NOT_OWNER) && refuses(fen_directory_return(DIRECTORY, 0, 0), FEN_NO_ITEM));
+    dir.owners[1] = 5; /* a byte, and no member */
+    CHECK(says(fen_directory_give(DIRECTORY, 6), 1) && dir_is(3, 0, 6, 0, 0));
+    CHECK(says(fen_remove(dir.store, FOUR, 1), 1));
+    CHECK(says(fen_directory_return(DIRECTORY, 6, 1), 0) && dir_is(1, 0, 0, 0, 0));
+    dir.owners[2] = 201; /* no item, so nobody can return it */
+    CHECK(refuses(fen_directory_return(DIRECTORY, 201, 2), FEN_NO_ITEM) && refuses(fen_directory_return(DIRECTORY, 200, 2), FEN_NOT_OWNER));
+    CHECK(dir_is(1, 0, 0, 201, 0));
+}
+
 /* A null pointer with count 0 is an empty slice: in each place of each call. */
 static void nulls(void)
 {
@@ -382,6 +501,10 @@ static void nulls(void)
     CHECK(refuses(fen_map_write(NULL, 0, buf, 40), FEN_NO_STORE) && refuses(fen_map_write(a, L, NULL, 0), FEN_SHORT_BUFFER));
     CHECK(refuses(fen_map_read(NULL, 0, a, L), FEN_NO_MAP) && refuses(fen_map_read(map, 40, NULL, 0), FEN_NO_STORE));
     CHECK(refuses(fen_map_length(NULL, 0), FEN_NO_STORE) && refuses(fen_map_capacity(NULL, 0), FEN_NO_MAP));
+    CHECK(refuses(fen_directory_open(NULL, 0, buf, 40, 40), FEN_NO_STORE) && refuses(fen_directory_open(a, L, NULL, 0, N), FEN_BAD_OWNERS));
+    CHECK(refuses(fen_directory_give(NULL, 0, NULL, 0, 1), FEN_NO_STORE) && refuses(fen_directory_give(a, L, NULL, 0, 1), FEN_BAD_OWNERS));
+    CHECK(refuses(fen_directory_return(NULL, 0, NULL, 0, 1, 0), FEN_NO_STORE));
+    CHECK(refuses(fen_directory_return(a, L, NULL, 0, 1, 0), FEN_BAD_OWNERS));
     CHECK(kept());
 }
 
@@ -440,6 +563,10 @@ int main(void)
     maps();
     map_headers();
     map_lengths();
+    directory_refusals();
+    directory_calls();
+    directory_figures();
+    directory_disagrees();
     nulls();
     nulls_of_walks();
     in_turn();
