@@ -158,10 +158,11 @@ fn elsewhere(out: &mut impl Write, r: &mut Random, n: u64, other: u64) -> io::Re
 
 /// Some calls at the largest capacity.
 fn largest(out: &mut impl Write, r: &mut Random) -> io::Result<()> {
-    let mut sketch = Sketch::open(out, LIMIT)?;
+    Sketch::open(out, LIMIT)?;
     for count in [LIMIT - 1, LIMIT + 1] {
         writeln!(out, "olend 1 0 {count}\ndopen 0 1 {LIMIT}\ngive 0 1 1\nreturn 0 1 1 0")?;
     }
+    let mut sketch = Sketch::open(out, LIMIT)?;
     for _ in 0..6 {
         for _ in 0..40 {
             let line = sketch.step(r, true);
@@ -350,6 +351,21 @@ fn poke(sketch: &mut Sketch, layer: usize, place: usize, word: u64) -> String {
     format!("poke 0 {} {word}", starts(sketch.n)[layer] + place)
 }
 
+/// A call of the set over the directory's store, which leaves the bytes as they are.
+fn behind_its_back(r: &mut Random, sketch: &mut Sketch, chunk: u64) -> String {
+    match r.below(10) {
+        0 => {
+            sketch.ids.fill(0);
+            "clear 0".to_string()
+        }
+        1 => "rebuild 0".to_string(),
+        _ => {
+            sketch.ids[chunk as usize / 64] |= 1 << (chunk % 64);
+            format!("list 0 {chunk}")
+        }
+    }
+}
+
 /// A word or a byte poked, or a call.
 fn poked(r: &mut Random, sketch: &mut Sketch) -> String {
     let n = sketch.n;
@@ -365,10 +381,7 @@ fn poked(r: &mut Random, sketch: &mut Sketch) -> String {
             sketch.owners[chunk as usize] = byte as u8;
             format!("opoke 0 {chunk} {byte}")
         }
-        4 => {
-            sketch.ids[chunk as usize / 64] |= 1 << (chunk % 64);
-            format!("list 0 {chunk}")
-        }
+        4 => behind_its_back(r, sketch, chunk),
         5..=6 => sketch.give(item(r)).0,
         7 => sketch.take_back(item(r), chunk),
         8 => sketch.take_back(sketch.owners[chunk as usize].into(), chunk),

@@ -129,7 +129,7 @@ pub fn bad(out: &mut impl Write) -> io::Result<()> {
     writeln!(out, "lend 0 0 6\nlend 1 100 6\nlend 2 200 7\nlend 3 300 5\nlend 5 400 100\nlend 6 500 3\nopen 0 65\nopen 1 65")?;
     writeln!(out, "poke 6 0 0\npoke 6 1 1\npoke 6 2 17\nlist 0 3 64\nlist 1 0 3\nstart 2 0")?;
     bad_lines(out, COMMANDS, &mut Random(3), 20_000)?;
-    writeln!(out, "lend 0 0 6\nopen 0 65\nolend 0 0 65")?;
+    writeln!(out, "lend 0 0 6\nlend 1 100 6\nopen 0 65\nopen 1 65\nolend 0 0 65")?;
     bad_lines(out, directory_scripts::COMMANDS, &mut Random(20), 8_000)?;
     writeln!(out, "\nadd\n add 0 1\nadd  0 1\nadd 0 1 \nadd 0\t1\nadd 0 -1\nadd 0 0x1\nAdd 0 1\nadds 0 1\nabcdefghi 0\nadd 0 18446744073709551616")?;
     write!(out, "average 22")
