@@ -1,5 +1,6 @@
 //! Times the port and the unchanged crate beside each other. Each row is one piece of work done by both sides, taking turns; the figures
 //! are medians over the rounds, with the ratio of the least times beside them, and both sides' sums of answers must agree.
+mod directory;
 mod formulas;
 mod maps;
 mod members;
@@ -37,6 +38,14 @@ fn main() {
         }
         if wanted("points") {
             points::free(&table, n);
+        }
+        if wanted("directory") {
+            for kind in ["1 in 4,096", "1 in 64", "1 in 2", "runs"] {
+                directory::directory(&table, &mut Random(1), n, kind);
+            }
+            for (full, kind) in [(0, "no full word"), (1, "1 full word"), (16, "16 full words"), (256, "256 full words"), (4_096, "4,096 full words")] {
+                directory::behind(&table, n, full, kind);
+            }
         }
         for kind in ["16", "1 in 4,096", "1 in 64", "1 in 2"] {
             if wanted("merges") {

@@ -40,6 +40,8 @@ extern "C" {
     fn fen_bitxor_assign(store: *mut u64, len: usize, other: *const u64, length: usize) -> Answer;
     fn fen_map_write(store: *const u64, len: usize, buf: *mut u8, room: usize) -> Answer;
     fn fen_map_read(map: *const u8, length: usize, store: *mut u64, len: usize) -> Answer;
+    fn fen_directory_give(store: *mut u64, len: usize, owners: *mut u8, count: usize, item: u32) -> Answer;
+    fn fen_directory_return(store: *mut u64, len: usize, owners: *mut u8, count: usize, item: u32, chunk: u32) -> Answer;
 }
 
 type Merge = unsafe extern "C" fn(*mut u64, usize, *const u64, usize) -> Answer;
@@ -135,6 +137,40 @@ impl Store {
 
     pub fn read(&mut self, map: &[u8]) -> u64 {
         unsafe { fen_map_read(map.as_ptr(), map.len(), self.0.as_mut_ptr(), self.0.len()).refusal }
+    }
+}
+
+/// A store and the owners of its chunks.
+pub struct Directory {
+    store: Store,
+    owners: Vec<u8>,
+}
+
+impl Directory {
+    pub fn new(n: usize) -> Directory {
+        Directory { store: Store::new(n), owners: vec![0; n] }
+    }
+
+    /// Chunks that are free become these items', by hand.
+    pub fn hand(&mut self, given: &[(u32, u8)]) {
+        for &(chunk, item) in given {
+            assert_eq!(self.store.add(chunk), 0);
+            self.owners[chunk as usize] = item;
+        }
+    }
+
+    pub fn give(&mut self, item: u8) -> u32 {
+        let (store, owners) = (&mut self.store.0, &mut self.owners);
+        let answer = unsafe { fen_directory_give(store.as_mut_ptr(), store.len(), owners.as_mut_ptr(), owners.len(), item.into()) };
+        assert_eq!(answer.refusal, 0);
+        answer.value as u32
+    }
+
+    /// 1 if the chunk came back.
+    pub fn take_back(&mut self, item: u8, chunk: u32) -> u64 {
+        let (store, owners) = (&mut self.store.0, &mut self.owners);
+        let answer = unsafe { fen_directory_return(store.as_mut_ptr(), store.len(), owners.as_mut_ptr(), owners.len(), item.into(), chunk) };
+        u64::from(answer.refusal == 0)
     }
 }
 

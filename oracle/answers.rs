@@ -1,6 +1,6 @@
 //! What the crate answers to the lines of a script. The reading of a line is written from docs/COMPARISON.md and shares nothing with
 //! oracle/port.c.
-use crate::stores::Stores;
+use crate::directories::Directories;
 use hibitset_util::{average_ones, offsets, Row};
 use std::io::{self, Write};
 
@@ -16,9 +16,9 @@ pub fn all(script: &[u8], out: &mut impl Write) -> io::Result<()> {
     if lines.last() == Some(&&b""[..]) {
         lines.pop();
     }
-    let mut stores = Stores::new();
+    let mut memory = Directories::new();
     for (place, line) in lines.into_iter().enumerate() {
-        match command(line).and_then(|(word, numbers)| answer(&mut stores, word, &numbers)) {
+        match command(line).and_then(|(word, numbers)| answer(&mut memory, word, &numbers)) {
             None => writeln!(out, "? {}", place + 1)?,
             Some(numbers) if numbers.is_empty() => writeln!(out, "none")?,
             Some(numbers) => {
@@ -52,7 +52,7 @@ fn number(field: &str) -> Option<u64> {
 }
 
 /// The numbers of the crate's answer, or nothing where it has no such call.
-fn answer(stores: &mut Stores, word: &str, numbers: &[u64]) -> Option<Vec<u64>> {
+fn answer(memory: &mut Directories, word: &str, numbers: &[u64]) -> Option<Vec<u64>> {
     match (word, numbers) {
         ("average", &[w]) => Some(average_ones(w as usize).into_iter().map(|b| b as u64).collect()),
         ("row", &[i, s]) => Some(vec![id(i)?.row(s as usize) as u64]),
@@ -62,7 +62,7 @@ fn answer(stores: &mut Stores, word: &str, numbers: &[u64]) -> Option<Vec<u64>> 
             let (a, b, c) = offsets(id(i)?);
             Some(vec![a as u64, b as u64, c as u64])
         }
-        _ => stores.answer(word, numbers),
+        _ => memory.answer(word, numbers),
     }
 }
 

@@ -57,6 +57,17 @@ pub fn rebuild(words: &mut [u64], n: u64) {
     }
 }
 
+/// The lowest id below n whose bit in layer 0 is not set.
+pub fn lowest_free(ids: &[u64], n: u64) -> Option<u64> {
+    let full = ids.iter().take_while(|&&w| w == u64::MAX).count() as u64;
+    (64 * full..n).find(|&id| ids[(id / 64) as usize] >> (id % 64) & 1 == 0)
+}
+
+/// Up to eight bytes as a number, the first the lowest.
+pub fn number(bytes: &[u8]) -> u64 {
+    bytes.iter().rev().fold(0, |w, &b| w << 8 | u64::from(b))
+}
+
 /// A digest of words: FNV-1a, a word at a time.
 pub fn digest(words: impl IntoIterator<Item = u64>) -> u64 {
     words.into_iter().fold(14695981039346656037, |h, w| (h ^ w).wrapping_mul(1099511628211))

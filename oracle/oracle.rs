@@ -3,6 +3,9 @@
 //! `oracle script NAME` writes a script to standard output; `oracle answer` reads one from standard input and prints what the
 //! unchanged crate answers, in the form of docs/COMPARISON.md. `oracle/compare` builds it and runs both sides.
 mod answers;
+mod directories;
+mod directory_scripts;
+mod figures;
 mod merge_scripts;
 mod map_scripts;
 mod maps;
@@ -44,13 +47,17 @@ fn main() -> io::Result<()> {
         ["script", "damaged"] => formula_scripts::damaged_script(&mut out)?,
         ["script", "fwalk"] => formula_walk_scripts::walk(&mut out)?,
         ["script", "ffill"] => formula_walk_scripts::fill(&mut out)?,
+        ["script", "directory"] => directory_scripts::directory(&mut out)?,
+        ["script", "dfull"] => directory_scripts::full(&mut out)?,
+        ["script", "drefusal"] => directory_scripts::refusal(&mut out)?,
+        ["script", "dunsound"] => directory_scripts::unsound(&mut out)?,
         ["answer"] => {
             let mut script = Vec::new();
             io::stdin().lock().read_to_end(&mut script)?;
             answers::all(&script, &mut out)?;
         }
         _ => {
-            eprintln!("usage: oracle script average | row | bad | small | history | top | unsound | refusal | walk | cursor | fill | superset | merge | map | damage | mapask | formula | damaged | fwalk | ffill; oracle answer <SCRIPT");
+            eprintln!("usage: oracle script average | row | bad | small | history | top | unsound | refusal | walk | cursor | fill | superset | merge | map | damage | mapask | formula | damaged | fwalk | ffill | directory | dfull | drefusal | dunsound; oracle answer <SCRIPT");
             std::process::exit(2);
         }
     }

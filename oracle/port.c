@@ -16,7 +16,8 @@ enum {
     LETTERS = 8,      /* its word at most so many letters, */
     NUMBERS = 64,     /* and at most so many numbers follow */
     MEMORY = 550000,  /* words of memory, all 0 at first */
-    SLOTS = 16,       /* parts of it that lines name */
+    OWNED = 17000000, /* and bytes of owners, all 0 at first */
+    SLOTS = 16,       /* parts of either that lines name */
     DUMPED = 1000,    /* a slot of more words is not dumped, */
     MERGED = 16646,   /* of more words not merged into another, */
     MAPPED = 1024,    /* and of more words holds no map; */
@@ -122,11 +123,35 @@ static bool is_slot(uint64_t s) { return s < SLOTS; }
 /* A slot by its number; an empty part past the last one, and before it is lent. */
 static part slot(uint64_t s) { return is_slot(s) && slots[s].at ? slots[s] : (part){memory + FENCE, 0}; }
 
+/* The owner bytes of directories stand in a memory of their own, with slots of their own. */
+typedef struct owner_part { uint8_t *at; size_t len; } owner_part;
+
+static uint8_t owned[FENCE + OWNED + FENCE];
+static owner_part owner_slots[SLOTS];
+
+static owner_part owners(uint64_t s) { return owner_slots[s].at ? owner_slots[s] : (owner_part){owned + FENCE, 0}; }
+
+static const uint64_t NOTHING = UINT64_C(14695981039346656037); /* the digest of no words */
+
+static uint64_t digested(uint64_t h, uint64_t w) { return (h ^ w) * UINT64_C(1099511628211); }
+
 static uint64_t digest(const uint64_t *w, size_t n)
 {
-    uint64_t h = UINT64_C(14695981039346656037);
+    uint64_t h = NOTHING;
     for (size_t i = 0; i < n; i++)
-        h = (h ^ w[i]) * UINT64_C(1099511628211);
+        h = digested(h, w[i]);
+    return h;
+}
+
+/* Bytes eight a word, the first the lowest, as both processors have them; zeros fill up the last word. */
+static uint64_t owner_digest(const uint8_t *b, size_t n)
+{
+    uint64_t h = NOTHING;
+    for (size_t i = 0; i < n; i += 8) {
+        uint64_t w = 0;
+        memcpy(&w, b + i, n - i < 8 ? n - i : 8);
+        h = digested(h, w);
+    }
     return h;
 }
 
@@ -140,7 +165,7 @@ typedef struct line {
     fen_cursor *cursor;
     uint32_t *ids;           /* of a list, or the places of a batch */
     size_t id_count;
-    uint8_t *bytes;          /* a map's, or codes */
+    uint8_t *bytes;          /* a map's, codes, or owners */
     size_t byte_count;
 } line;
 
@@ -154,6 +179,13 @@ static bool take_slot(line *l, part p)
         k++;
     l->s[k] = p;
     lend(p.at, p.len * sizeof *p.at);
+    return true;
+}
+
+static bool take_owners(line *l, owner_part p)
+{
+    l->bytes = lend(p.at, p.len);
+    l->byte_count = p.len;
     return true;
 }
 
@@ -227,6 +259,7 @@ static bool take(line *l, char letter, size_t k)
     case 'p': return take_ids(l, p.at, p.len < PLACES ? p.len : PLACES);                         /* the same; past the last slot, none */
     case 'f': return take_bytes(l, p, CODES);                                                    /* codes; past the last slot, none */
     case 'm': case 'w': return is_slot(n) && take_bytes(l, p, MAPPED);                           /* a map to be read, or to be written */
+    case 'b': return is_slot(n) && take_owners(l, owners(n));                                    /* a slot of owner bytes, lent as it is */
     default: return false;
     }
 }
@@ -349,6 +382,28 @@ static bool c_fstart(line *l) { return stepped(fen_formula_start(FORMULA, l->cur
 static bool c_fnext(line *l) { return stepped(fen_formula_next(FORMULA, l->cursor, l->n[6]), l->cursor); }
 static bool c_ffill(line *l) { return filled(fen_formula_fill(FORMULA, l->cursor, l->n[6], IDS), l->cursor); }
 
+static bool c_olend(line *l)
+{
+    if (l->n[1] > OWNED || l->n[2] > OWNED - l->n[1])
+        return false;
+    owner_slots[l->n[0]] = (owner_part){owned + FENCE + l->n[1], l->n[2]};
+    return one(0);
+}
+static bool c_opoke(line *l) { return l->n[1] < l->byte_count && (l->bytes[l->n[1]] = (uint8_t)l->n[2], one(0)); }
+static bool c_opeek(line *l) { return l->n[1] < l->byte_count && one(l->bytes[l->n[1]]); }
+static bool c_odigest(line *l) { return one(owner_digest(BYTES)); }
+static bool c_odump(line *l)
+{
+    if (l->byte_count > DUMPED)
+        return false;
+    for (saying = 0; saying < l->byte_count; saying++)
+        said[saying] = l->bytes[saying];
+    return true;
+}
+static bool c_dopen(line *l) { return told(fen_directory_open(S(0), BYTES, id(l->n[2]))); }
+static bool c_give(line *l) { return told(fen_directory_give(S(0), BYTES, id(l->n[2]))); }
+static bool c_return(line *l) { return told(fen_directory_return(S(0), BYTES, id(l->n[2]), id(l->n[3]))); }
+
 /* A word, a letter for each number of its line, and the function. */
 typedef struct command { const char *word, *letters; bool (*call)(line *); } command;
 static const command commands[] = {
@@ -362,7 +417,9 @@ static const command commands[] = {
     {"next", "csn", c_next},       {"fill", "csnd", c_fill},       {"first", "sn", c_first},        {"write", "ws", c_write},
     {"read", "ms", c_read},        {"maplen", "s", c_maplen},      {"mapcap", "m", c_mapcap},       {"fempty", "feeee", c_fempty},
     {"fcontain", "feeeei", c_fcontain}, {"fword", "feeeenn", c_fword}, {"fstart", "feeeec", c_fstart}, {"fnext", "feeeecn", c_fnext},
-    {"ffill", "feeeecnp", c_ffill},
+    {"ffill", "feeeecnp", c_ffill}, {"olend", "bnn", c_olend},     {"opoke", "bnn", c_opoke},       {"opeek", "bn", c_opeek},
+    {"odigest", "b", c_odigest},   {"odump", "b", c_odump},        {"dopen", "sbi", c_dopen},       {"give", "sbi", c_give},
+    {"return", "sbii", c_return},
 };
 
 static const command *named(const char *word)

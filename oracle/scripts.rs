@@ -1,4 +1,5 @@
 //! The scripts, each the same at every run.
+use crate::directory_scripts;
 use std::io::{self, Write};
 
 /// A generator of words (splitmix64).
@@ -122,12 +123,21 @@ const NUMBERS: &[u64] =
     &[0, 1, 2, 3, 4, 5, 6, 15, 16, 17, 63, 64, 65, 66, 255, 256, 4_294_967_295, 4_294_967_296, 4_294_967_360, u64::MAX - 1, u64::MAX];
 
 /// `bad`: every command with too few and too many numbers, with each number replaced, ids and capacities above 32 bits and slots past the
-/// last one among them, and random lines of these numbers. Slots 0 and 1 are stores of 65 ids, 2 a cursor, 3 places, 5 a map, 6 codes. The
-/// crate has no answer to a shift past 31, so none is asked for. The last line lacks its newline.
+/// last one among them, and random lines of these numbers. Slots 0 and 1 are stores of 65 ids, 2 a cursor, 3 places, 5 a map, 6 codes, and
+/// slot 0 of the owners has 65 bytes. The crate has no answer to a shift past 31, so none is asked for. The last line lacks its newline.
 pub fn bad(out: &mut impl Write) -> io::Result<()> {
     writeln!(out, "lend 0 0 6\nlend 1 100 6\nlend 2 200 7\nlend 3 300 5\nlend 5 400 100\nlend 6 500 3\nopen 0 65\nopen 1 65")?;
     writeln!(out, "poke 6 0 0\npoke 6 1 1\npoke 6 2 17\nlist 0 3 64\nlist 1 0 3\nstart 2 0")?;
-    for (word, numbers) in COMMANDS {
+    bad_lines(out, COMMANDS, &mut Random(3), 20_000)?;
+    writeln!(out, "lend 0 0 6\nlend 1 100 6\nopen 0 65\nopen 1 65\nolend 0 0 65")?;
+    bad_lines(out, directory_scripts::COMMANDS, &mut Random(20), 8_000)?;
+    writeln!(out, "\nadd\n add 0 1\nadd  0 1\nadd 0 1 \nadd 0\t1\nadd 0 -1\nadd 0 0x1\nAdd 0 1\nadds 0 1\nabcdefghi 0\nadd 0 18446744073709551616")?;
+    write!(out, "average 22")
+}
+
+/// Wrong lines of some commands, the last so many of them at random.
+fn bad_lines(out: &mut impl Write, commands: &[(&str, &[u64])], r: &mut Random, count: usize) -> io::Result<()> {
+    for (word, numbers) in commands {
         for count in (0..numbers.len() + 4).chain([63, 64, 65, 70]) {
             let extended: Vec<u64> = numbers.iter().copied().chain(std::iter::repeat(7)).take(count).collect();
             asked(out, word, &extended)?;
@@ -140,22 +150,21 @@ pub fn bad(out: &mut impl Write) -> io::Result<()> {
             }
         }
     }
-    let mut r = Random(3);
-    for _ in 0..20_000 {
-        let (word, numbers) = COMMANDS[r.below(COMMANDS.len())];
+    for _ in 0..count {
+        let (word, numbers) = commands[r.below(commands.len())];
         let count = (numbers.len() + r.below(3)).saturating_sub(r.below(2));
         let random: Vec<u64> = (0..count).map(|_| NUMBERS[r.below(NUMBERS.len())]).collect();
         asked(out, word, &random)?;
     }
-    writeln!(out, "\nadd\n add 0 1\nadd  0 1\nadd 0 1 \nadd 0\t1\nadd 0 -1\nadd 0 0x1\nAdd 0 1\nadds 0 1\nabcdefghi 0\nadd 0 18446744073709551616")?;
-    write!(out, "average 22")
+    Ok(())
 }
 
-/// A line, and what slots 0 and 1 are after it.
+/// A line, and what slots 0 and 1 are after it, and slot 0 of the owners where it is a line of theirs.
 fn asked(out: &mut impl Write, word: &str, numbers: &[u64]) -> io::Result<()> {
     if matches!((word, numbers), ("row" | "offset" | "mask", &[_, shift]) if shift > 31) {
         return Ok(());
     }
     let text: String = numbers.iter().map(|n| format!(" {n}")).collect();
-    writeln!(out, "{word}{text}\ndigest 0\ndigest 1")
+    let owners = directory_scripts::COMMANDS.iter().any(|command| command.0 == word);
+    writeln!(out, "{word}{text}\ndigest 0\ndigest 1{}", if owners { "\nodigest 0" } else { "" })
 }

@@ -38,7 +38,7 @@ pub fn small(out: &mut impl Write) -> io::Result<()> {
 }
 
 /// All ids of a store rising, falling, the even ones first, and in no order.
-fn orders(r: &mut Random, n: u64) -> Vec<Vec<u64>> {
+pub fn orders(r: &mut Random, n: u64) -> Vec<Vec<u64>> {
     let rising: Vec<u64> = (0..n).collect();
     let falling = rising.iter().rev().copied().collect();
     let even = (0..n).step_by(2).chain((1..n).step_by(2)).collect();

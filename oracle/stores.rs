@@ -12,13 +12,13 @@ use std::mem::size_of;
 
 const MEMORY: usize = 550_000;
 
-const SLOTS: usize = 16;
+pub const SLOTS: usize = 16;
 
 /// A slot above this many words holds no map.
 const MAPPED: usize = 1_024;
 
 /// A slot above this many words is not dumped.
-const DUMPED: usize = 1_000;
+pub const DUMPED: usize = 1_000;
 
 /// A slot above this many words is not merged into another.
 const MERGED: usize = 16_646;
@@ -118,7 +118,7 @@ pub struct Stores {
 }
 
 /// A value or a refusal, on paper.
-fn paper(answer: Result<u64, u64>) -> Option<Vec<u64>> {
+pub fn paper(answer: Result<u64, u64>) -> Option<Vec<u64>> {
     Some(match answer {
         Ok(value) => vec![0, value],
         Err(refusal) => vec![refusal],
@@ -167,7 +167,7 @@ impl Stores {
             ("peek", &[i]) => Some(vec![*self.words(s).get(usize::try_from(i).ok()?)?]),
             ("dump", &[]) => Some(self.words(s)).filter(|words| words.len() <= DUMPED),
             ("digest", &[]) => Some(vec![model::digest(self.words(s))]),
-            ("open", &[n]) => self.open(s, u64::from(id(n)?)),
+            ("open", &[n]) => paper(self.open(s, id(n)?.into())),
             ("clear", &[]) => paper(self.clear(s)),
             ("add", &[i]) => paper(self.add(s, id(i)?)),
             ("remove", &[i]) => paper(self.remove(s, id(i)?)),
@@ -256,16 +256,32 @@ impl Stores {
         Some(vec![0])
     }
 
-    fn open(&mut self, s: usize, n: u64) -> Option<Vec<u64>> {
-        self.settle(s);
+    /// Refusals 1 and 2 of an opening.
+    pub fn can_open(&self, s: usize, n: u64) -> Result<(), u64> {
         if !model::is_capacity(n) {
-            return Some(vec![1]);
+            return Err(1);
         }
         if self.slots[s].len != model::length(n) {
-            return Some(vec![2]);
+            return Err(2);
         }
+        Ok(())
+    }
+
+    pub fn open(&mut self, s: usize, n: u64) -> Result<u64, u64> {
+        self.settle(s);
+        self.can_open(s, n)?;
         self.slots[s].set = Some(Set::new(n));
-        Some(vec![0, 0])
+        Ok(0)
+    }
+
+    /// The capacity of a slot that is a store.
+    pub fn capacity(&mut self, s: usize) -> Result<u64, u64> {
+        Ok(self.store(s)?.n)
+    }
+
+    /// The words of its layer 0.
+    pub fn layer0(&mut self, s: usize) -> Result<Vec<u64>, u64> {
+        Ok(self.store(s)?.layer(0))
     }
 
     fn clear(&mut self, s: usize) -> Result<u64, u64> {
@@ -275,7 +291,7 @@ impl Stores {
         Ok(0)
     }
 
-    fn add(&mut self, s: usize, i: u32) -> Result<u64, u64> {
+    pub fn add(&mut self, s: usize, i: u32) -> Result<u64, u64> {
         let set = self.store(s)?;
         if u64::from(i) >= set.n {
             return Err(3);
@@ -283,7 +299,7 @@ impl Stores {
         Ok(set.bits.add(i).into())
     }
 
-    fn remove(&mut self, s: usize, i: u32) -> Result<u64, u64> {
+    pub fn remove(&mut self, s: usize, i: u32) -> Result<u64, u64> {
         let set = self.store(s)?;
         Ok((u64::from(i) < set.n && set.bits.remove(i)).into())
     }
