@@ -43,7 +43,7 @@ fn main() {
             for kind in ["1 in 4,096", "1 in 64", "1 in 2", "runs"] {
                 directory::directory(&table, &mut Random(1), n, kind);
             }
-            for (full, kind) in [(0, "no full word"), (1, "1 full word"), (16, "16 full words"), (256, "256 full words"), (4_096, "4,096 full words")] {
+            for (full, kind) in directory::FRONTS {
                 directory::behind(&table, n, full, kind);
             }
         }

@@ -71,6 +71,10 @@ pub fn directory(table: &Table, r: &mut Random, n: usize, kind: &str) {
     gives(table, n, kind, &some, 1 << 12);
 }
 
+/// How many full words stand in front, and how the table names them.
+pub const FRONTS: [(usize, &str); 6] =
+    [(0, "no full word"), (1, "1 full word"), (4, "4 full words"), (16, "16 full words"), (256, "256 full words"), (4_096, "4,096 full words")];
+
 /// Chunks given behind so many full words, where that is not all.
 pub fn behind(table: &Table, n: usize, full: usize, kind: &str) {
     let front: Vec<u32> = (0..64 * full as u32).collect();
@@ -79,8 +83,8 @@ pub fn behind(table: &Table, n: usize, full: usize, kind: &str) {
     }
 }
 
-/// So many are given in a row and then returned, each side by its own call and outside of the time: they fit into a word that is empty, so that
-/// what stands in front stays as it is.
+/// So many are given in a row and then returned, by each side's own call and outside of the time: they fit into an empty word, so that what
+/// stands in front stays as it is.
 const ROW: usize = 63;
 
 /// Chunks given over a set.
@@ -93,7 +97,10 @@ fn gives(table: &Table, n: usize, kind: &str, given: &[(u32, u8)], times: usize)
     );
 }
 
-fn in_rows<'a, T>(times: usize, side: &'a mut T, give: impl Fn(&mut T, u8) -> u32 + 'a, take_back: impl Fn(&mut T, u8, u32) -> u64 + 'a) -> Side<'a> {
+/// One side's rows; the sum is of the chunks, so that both sides must have given the same.
+fn in_rows<'a, T>(
+    times: usize, side: &'a mut T, give: impl Fn(&mut T, u8) -> u32 + 'a, take_back: impl Fn(&mut T, u8, u32) -> u64 + 'a,
+) -> Side<'a> {
     Box::new(move || {
         let (mut time, mut sum, mut chunks) = (0.0, 0, [0; ROW]);
         for _ in 0..times {
