@@ -1,14 +1,14 @@
 -- What each way out of the code answers is what the definition answers there.
 use mathlib.Core.Bool.{Bool, true, false, cond, _&&_, true≢false}
 use mathlib.Core.List.{List}
-use mathlib.Core.Logic.{_≢_, ⊎-elim}
+use mathlib.Core.Logic.{_≢_}
 use mathlib.Core.Path.{_≡_, refl, sym, ap, ap₂, _∙_}
 use Prim.Native.Nat.{ℕ, _≤_, _<_}
 use native.Mathlib.Omega.{arith}
 use borrow.Author.Tests.{eq-eqb, ne-eqb, eqb-true, le-leb, leb-true, lt-ltb, le-ltb, ltb-true}
 use lib.Dec.{leb, ltb, eqb}
-use lib.ListN.{length, getD, set, replicate}
-use Rattle.util.specs.Outcome.{Outcome, Settled, settled}
+use lib.ListN.{length, set, replicate}
+use Rattle.util.specs.Outcome.{Settled, settled}
 use Rattle.util.proofs.Same.{both}
 use Rattle.store.specs.Answer.{didPaper, foundPaper, gives, does}
 use Rattle.store.specs.Layout.{cap, isStore}
@@ -16,10 +16,10 @@ use Rattle.store.specs.declared.Did.the-variants.{Done, Refused as DidRefused}
 use Rattle.store.specs.declared.Found.the-variants.{At, Refused as FoundRefused}
 use Rattle.store.proofs.Geometry.{store-is}
 use Rattle.set_edit.specs.Calls.{addOf, removeOf}
-use Rattle.set_free.specs.Calls.{firstFreeOf, LowestFree}
-use Rattle.set_free.proofs.Lowest.{free-told, free-found}
+use Rattle.set_free.specs.Calls.{lowestOf, firstFreeOf}
+use Rattle.set_free.proofs.Lowest.{lowest-found, lowest-none}
 use Rattle.set_whole.specs.Calls.{openRefusal, openOf}
-use Rattle.directory.specs.Calls.{Directory, directory, ownerAt, refusalNumber, isItem, roomRefusal, itemRefusal, returnRefusal, directoryOpenOf, giveOf, takeBackOf}
+use Rattle.directory.specs.Calls.{Directory, directory, ownerAt, isItem, roomRefusal, itemRefusal, returnRefusal, directoryOpenOf, giveOf, takeBackOf}
 
 -- ---- items
 
@@ -159,33 +159,22 @@ module _ (d : Directory) (x : ℕ) where
   give-refused {r} e n = settled (rw (← e, ne-eqb r 0 n))
 
   module _ (h : itemRefusal d x ≡ 0) where
-    -- the chunk found has room, and a byte
-    pub found-at : {c : ℕ} → Settled foundPaper (firstFreeOf (d .store)) (At c) tt → LowestFree (d .store) c
-    found-at {c} f = free-found (d .store) (store-is (judged d x h .is)) c (ap (λ (l : List ℕ). record { numbers = l; lent = tt }) (sym (f .answer)))
+    abbrev s : List ℕ
+    s = d .store
 
-    pub found-byte : {c : ℕ} → Settled foundPaper (firstFreeOf (d .store)) (At c) tt → c < length (d .owners)
-    found-byte f = omega (arith, found-at f .below, judged d x h .long)
-
-    pub give-done : {c : ℕ} (t o : List ℕ) → Settled foundPaper (firstFreeOf (d .store)) (At c) tt → t ≡ addOf (d .store) c .lent
-        → o ≡ set (d .owners) c x → Settled foundPaper (giveOf d x) (At c) (directory t o)
+    pub give-done : {c : ℕ} (t o : List ℕ) → c ≡ lowestOf s → c < length (d .owners) → t ≡ addOf s c .lent → o ≡ set (d .owners) c x
+        → Settled foundPaper (giveOf d x) (At c) (directory t o)
     unfolding giveOf
-    give-done {c} t o f e g = settled (rw (h, ← f .answer) (ap (gives c) (ap₂ directory (sym e) (sym g))))
+    give-done {c} t o l u e g =
+        let j = judged d x h in
+        let f : firstFreeOf s ≡ gives c tt = lowest-found s (store-is (j .is)) (omega (arith, l, j .long)) ∙ ap (λ (i : ℕ). gives i tt) (sym l) in
+        settled (rw (h, f) (ap (gives c) (ap₂ directory (sym e) (sym g))))
 
-    -- where the search refuses, it is by 12
-    pub give-full : {r : ℕ} → Settled foundPaper (firstFreeOf (d .store)) (FoundRefused r) tt → Settled foundPaper (giveOf d x) (FoundRefused r) d
+    pub give-full : {c : ℕ} → c ≡ lowestOf s → length (d .owners) ≤ c → Settled foundPaper (giveOf d x) (FoundRefused 12) d
     unfolding giveOf
-    give-full {r} f =
-        settled (rw (h, ← f .answer, ne-eqb r 0 some))
-      where
-        first : r ≡ refusalNumber (firstFreeOf (d .store))
-        first = ap (λ (l : List ℕ). getD l 0 0) (f .answer)
-
-        some : r ≢ 0
-        some e =
-            ⊎-elim
-            (λ (g : (i : ℕ) × (firstFreeOf (d .store) ≡ gives i tt)). omega (arith, ap length (f .answer ∙ ap (λ (o : Outcome (Unit {0})). o .numbers) (g .1))))
-            (λ g. omega (arith, first ∙ ap refusalNumber g))
-            (free-told (d .store) (store-is (judged d x h .is)))
+    give-full {c} l u =
+        let j = judged d x h in
+        settled (rw (h, lowest-none s (store-is (j .is)) (omega (arith, l, j .long))))
 
 module _ (d : Directory) (x c : ℕ) where
   pub take-refused : {r : ℕ} → r ≡ returnRefusal d x c → r ≢ 0 → Settled didPaper (takeBackOf d x c) (DidRefused r) d

@@ -113,13 +113,12 @@ pub fn give(store: &mut [u64], owners: &mut [u8], item: u32) -> Found
     if no != 0 {
         return Found::Refused(no);
     }
-    match set_free::first_free(store) {
-        Found::At(chunk) => {
-            hand(store, owners, item, chunk);
-            Found::At(chunk)
-        }
-        Found::Refused(none) => Found::Refused(none),
+    let chunk = set_free::lowest_free(store);
+    if (chunk as usize) < owners.len() {
+        hand(store, owners, item, chunk);
+        return Found::At(chunk);
     }
+    Found::Refused(12)
 }
 
 // Takes a chunk back from the item that owns it.

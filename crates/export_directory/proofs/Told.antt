@@ -8,6 +8,6 @@ use Rattle.export_answer.specs.Abi.{answerOf}
 use Rattle.export_answer.specs.declared.Answer.{Answer}
 use Rattle.export_answer.proofs.Tells.{tells}
 
-pub told : {R : Type 0} (p : Paper R) {o : Outcome Directory} {r : R} {s b : List ℕ} {a : Answer} → Settled p o r (directory s b)
+pub directory-told : {R : Type 0} (p : Paper R) {o : Outcome Directory} {r : R} {s b : List ℕ} {a : Answer} → Settled p o r (directory s b)
     → a ≡ answerOf (p .numbers r) → (a ≡ answerOf (o .numbers)) × ((s ≡ o .lent .store) × (b ≡ o .lent .owners))
-told p m e = (tells p m e, (ap (λ (d : Directory). d .store) (m .memory), ap (λ (d : Directory). d .owners) (m .memory)))
+directory-told p m e = (tells p m e, (ap (λ (d : Directory). d .store) (m .memory), ap (λ (d : Directory). d .owners) (m .memory)))

@@ -15,13 +15,12 @@ use Rattle.store.specs.Answer.{foundPaper, gives, refuses}
 use Rattle.store.specs.Build.{layer0}
 use Rattle.store.specs.Layout.{maxCap, cap, isStore, StoreOf, startFrom}
 use Rattle.store.specs.Word.{on, Member, Words64}
-use Rattle.store.specs.declared.Found.{Found as Answer}
-use Rattle.store.specs.declared.Found.the-variants.{Refused}
+use Rattle.store.specs.declared.Found.the-variants.{At, Refused}
 use Rattle.store.proofs.Build.{word-layer0}
 use Rattle.store.proofs.Ends.{lent0}
 use Rattle.store.proofs.Geometry.{is-store, store-is, room-closed}
 use Rattle.store.proofs.Words.{on-lt}
-use Rattle.set_free.specs.Calls.{searchStart, freeFrom, firstOf, firstFreeOf, LowestFree}
+use Rattle.set_free.specs.Calls.{searchStart, freeFrom, firstOr, lowestOf, firstOf, firstFreeOf, LowestFree}
 use Rattle.set_free.specs.Steps.{freeAt, freeIn, Small}
 
 -- ---- layer 0, as the code lends it
@@ -32,16 +31,18 @@ module _ {N : ℕ} {s : List ℕ} (z : StoreOf N s) {a : ℕ} (e : a ≡ startFr
       let l = lent0 z e in
       record { most = z .most; first-in = h; long = omega (arith, ap length (l .words), l .long, room-closed N 1, z .most) }
 
-  pub answered : Words64 s → {r : Answer}
-      → Settled foundPaper (firstOf (freeIn (take (length s - a) (drop a s)) N searchStart)) r tt → Settled foundPaper (firstFreeOf s) r tt
-  unfolding firstFreeOf freeFrom on
-  answered small {r} h =
-      subst (λ (o : Outcome (Unit {0})). Settled foundPaper o r tt)
-      (ap firstOf (ap (λ (x : List ℕ). freeIn x N searchStart) (lent0 z e .words) ∙ ap (λ (n : ℕ). freeIn (layer0 n s) n searchStart) (sym (z .names))
-      ∙ places-same (freeAt (layer0 (cap s) s)) (λ i. 1 - on (cap s) s 0 i) searchStart (cap s - searchStart)
-      (λ i a b. ap (λ (w : ℕ). 1 - bit w (i % 64)) (word-layer0 s (store-is (is-store z)) small (i / 64))))
-      ∙ sym (ap (λ (b : Bool). cond b (firstOf (freeFrom (cap s) s searchStart)) (refuses 2 tt)) (is-store z)))
+  pub lowest-is : Words64 s → {r : ℕ} → r ≡ firstOr N (freeIn (take (length s - a) (drop a s)) N searchStart) → r ≡ lowestOf s
+  unfolding lowestOf freeFrom on
+  lowest-is small h =
       h
+      ∙ ap (λ (x : List ℕ). firstOr N (freeIn x N searchStart)) (lent0 z e .words) ∙ ap (λ (n : ℕ). firstOr n (freeIn (layer0 n s) n searchStart)) (sym (z .names))
+      ∙ ap (firstOr (cap s)) (places-same (freeAt (layer0 (cap s) s)) (λ i. 1 - on (cap s) s 0 i) searchStart (cap s - searchStart)
+      (λ i a b. ap (λ (w : ℕ). 1 - bit w (i % 64)) (word-layer0 s (store-is (is-store z)) small (i / 64))))
+      ∙ sym (ap (λ (b : Bool). cond b (firstOr (cap s) (freeFrom (cap s) s searchStart)) 0) (is-store z))
+
+pub lowest-0 : (s : List ℕ) → isStore s ≡ false → 0 ≡ lowestOf s
+unfolding lowestOf
+lowest-0 s h = rw h
 
 pub free-2 : (s : List ℕ) → isStore s ≡ false → Settled foundPaper (firstFreeOf s) (Refused 2) tt
 unfolding firstFreeOf
@@ -83,6 +84,26 @@ module _ (s : List ℕ) (is : StoreOf (cap s) s) where
   answer-is : firstFreeOf s ≡ firstOf (freeFrom (cap s) s searchStart)
   unfolding firstFreeOf
   answer-is = ap (λ (b : Bool). cond b (firstOf (freeFrom (cap s) s searchStart)) (refuses 2 tt)) (is-store is)
+
+  -- where the lowest is below N the search answers it, and else refuses by 12
+  lowest-list : lowestOf s ≡ firstOr (cap s) (freeFrom (cap s) s searchStart)
+  unfolding lowestOf
+  lowest-list = ap (λ (b : Bool). cond b (firstOr (cap s) (freeFrom (cap s) s searchStart)) 0) (is-store is)
+
+  pub lowest-found : lowestOf s < cap s → firstFreeOf s ≡ gives (lowestOf s) tt
+  lowest-found l = go (freeFrom (cap s) s searchStart) answer-is lowest-list
+    where
+      go : (x : List ℕ) → firstFreeOf s ≡ firstOf x → lowestOf s ≡ firstOr (cap s) x → firstFreeOf s ≡ gives (lowestOf s) tt
+      go [] e f = absurd (omega (arith, f))
+      go (i ∷ x) e f = e ∙ ap (λ (j : ℕ). gives j tt) (sym f)
+
+  pub lowest-none : cap s ≤ lowestOf s → firstFreeOf s ≡ refuses 12 tt
+  unfolding freeFrom
+  lowest-none l = go (freeFrom (cap s) s searchStart) refl answer-is lowest-list
+    where
+      go : (x : List ℕ) → freeFrom (cap s) s searchStart ≡ x → firstFreeOf s ≡ firstOf x → lowestOf s ≡ firstOr (cap s) x → firstFreeOf s ≡ refuses 12 tt
+      go [] q e f = e
+      go (i ∷ x) q e f = absurd (omega (arith, f, places-head free searchStart (cap s - searchStart) i x q .1))
 
   -- the search finds an id, or refuses by 12
   pub free-told : ((i : ℕ) × (firstFreeOf s ≡ gives i tt)) ⊎ (firstFreeOf s ≡ refuses 12 tt)
@@ -126,3 +147,12 @@ module _ (s : List ℕ) (is : StoreOf (cap s) s) where
           at (no z) =
               absurd (List·Memᴰ·not-nil (subst (List·Memᴰ j) q (in-places free searchStart (cap s - searchStart) j a (omega arith) z)))
       go (x ∷ l) q o j a u = absurd (let z : 0 ≡ 12 = ap (λ (x : Outcome (Unit {0})). getD (x .numbers) 0 0) o in omega arith)
+
+-- ---- the search, by the lowest
+
+module _ {N : ℕ} {s : List ℕ} (z : StoreOf N s) {r : ℕ} (e : r ≡ lowestOf s) where
+  pub free-at : r < N → Settled foundPaper (firstFreeOf s) (At r) tt
+  free-at l = settled (lowest-found s (store-is (is-store z)) (omega (arith, e, z .names)) ∙ ap (λ (i : ℕ). gives i tt) (sym e))
+
+  pub free-12 : N ≤ r → Settled foundPaper (firstFreeOf s) (Refused 12) tt
+  free-12 l = settled (lowest-none s (store-is (is-store z)) (omega (arith, e, z .names)))

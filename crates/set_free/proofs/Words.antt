@@ -1,27 +1,21 @@
 -- Where the search finds the lowest clear bit, and that its answer is the definition's.
-use mathlib.Core.Bool.{cond}
 use mathlib.Core.List.{List}
 use mathlib.Core.Logic.{_≢_}
 use mathlib.Core.Path.{_≡_, sym, ap, ap₂, _∙_, subst}
-use Prim.Native.Nat.{ℕ, _+_, _-_, _*_, _/_, _%_, _^_, _≤_, _<_}
+use Prim.Native.Nat.{ℕ, _+_, _-_, _*_, _/_, _%_, _^_, _≤_, _<_, min}
 use native.Mathlib.Decide.{decLt, ℕ-discrete}
 use native.Mathlib.Nat.{div-one}
 use native.Mathlib.Omega.{arith}
-use borrow.Author.Tests.{lt-ltb, le-ltb}
 use lib.Bits.{bitAnd, and-le-l, and-le-r}
 use lib.Count.{trailingZeros}
-use lib.Dec.{ltb}
 use lib.ListN.{length, getD, List·getD-eq-default}
 use lib.Pow.{shr-shr, shr-le}
-use Rattle.util.specs.Outcome.{Settled, settled}
 use Rattle.util.specs.Word.{bit, flip, places}
 use Rattle.util.proofs.Bits.{bit-flip, bit-high, bit-of-zero}
 use Rattle.util.proofs.Places.{Lowest, lowest, places-first, places-none}
-use Rattle.store.specs.Answer.{foundPaper}
 use Rattle.store.specs.Word.{Words64}
-use Rattle.store.specs.declared.Found.the-variants.{At, Refused}
-use Rattle.set_free.specs.Calls.{firstOf}
-use Rattle.set_free.specs.Steps.{full, FullIn, Skipped, Opened, foundOf, freeAt, freeIn}
+use Rattle.set_free.specs.Calls.{firstOr}
+use Rattle.set_free.specs.Steps.{full, FullIn, Skipped, Opened, freeAt, freeIn}
 
 -- ---- words that are full
 
@@ -78,9 +72,16 @@ module _ {ws : List ℕ} {q r : ℕ} (h : Skipped ws q r) where
         passed = full-more ws q (r + 4) (r + 8) (full-more ws q r (r + 4) (h .passed) a) (subst (FullIn ws (r + 4)) z b);
       }
 
+  pub skipped-on : {m : ℕ} → Skipped ws r m → Skipped ws q m
+  skipped-on {m} g = record { from = omega (arith, h .from, g .from); upto = omega (arith, h .upto, g .upto); passed = full-more ws q r m (h .passed) (g .passed) }
+
   -- at the end there is no word, and 0 is not full
-  pub opened-end : length ws ≤ r → Opened ws q r
-  opened-end l = record { skipped = h; some = λ e. omega (arith, sym (List·getD-eq-default ws 0 l) ∙ e) }
+  pub opened-where : (r < length ws → getD ws r 0 ≢ full) → Opened ws q r
+  opened-where n = record { skipped = h; some = go (decLt r (length ws)) }
+    where
+      go : Dec (r < length ws) → getD ws r 0 ≢ full
+      go (yes l) = λ e. n l e
+      go (no l) = λ e. omega (arith, sym (List·getD-eq-default ws 0 (omega (arith, l))) ∙ e)
 
 -- ---- the ids of a word
 
@@ -135,15 +136,12 @@ module _ (ws : List ℕ) (q t : ℕ) (h : t < 64) (small : getD ws q 0 ≤ full)
 -- ---- the answer
 
 -- id p is free and none before it from `first` on
-found-at : (f : ℕ → ℕ) (n first p : ℕ) → first ≤ p → ((i : ℕ) → first ≤ i → i < p → f i ≡ 0) → f p ≢ 0
-    → Settled foundPaper (firstOf (places f first (n - first))) (foundOf n p) tt
-unfolding foundOf
-found-at f n first p l zeros some = go (decLt p n)
+first-at : (f : ℕ → ℕ) (n first p : ℕ) → first ≤ p → ((i : ℕ) → first ≤ i → i < p → f i ≡ 0) → f p ≢ 0 → min p n ≡ firstOr n (places f first (n - first))
+first-at f n first p l zeros some = go (decLt p n)
   where
-    go : Dec (p < n) → Settled foundPaper (firstOf (places f first (n - first))) (cond (ltb p n) (At p) (Refused 12)) tt
-    go (yes h) =
-        rw (lt-ltb p n h) (settled (ap firstOf (places-first f first p (n - first) l (omega arith) zeros some)))
-    go (no h) = rw (le-ltb p n (omega arith)) (settled (ap firstOf (places-none f first (n - first) (λ i a b. zeros i a (omega arith)))))
+    go : Dec (p < n) → min p n ≡ firstOr n (places f first (n - first))
+    go (yes h) = let e : min p n ≡ p = omega arith in e ∙ sym (ap (firstOr n) (places-first f first p (n - first) l (omega arith) zeros some))
+    go (no h) = let e : min p n ≡ n = omega arith in e ∙ sym (ap (firstOr n) (places-none f first (n - first) (λ i a b. zeros i a (omega arith))))
 
 module _ (ws : List ℕ) (n first : ℕ) where
   abbrev q : ℕ
@@ -157,21 +155,21 @@ module _ (ws : List ℕ) (n first : ℕ) where
 
   -- in the word of the first id
   pub own-word : (w : ℕ) → w ≡ getD ws (first / 64) 0 → w ≤ full → (full - w) / 2 ^ (first % 64) ≢ 0
-      → Settled foundPaper (firstOf (freeIn ws n first)) (foundOf n (first + trailingZeros 64 ((full - w) / 2 ^ (first % 64)))) tt
+      → min (first + trailingZeros 64 ((full - w) / 2 ^ (first % 64))) n ≡ firstOr n (freeIn ws n first)
   own-word w w-is small some = rw w-is (go (λ e. some (ap (λ (x : ℕ). (full - x) / 2 ^ t) w-is ∙ e)) (omega arith))
     where
       go : (full - getD ws q 0) / 2 ^ t ≢ 0 → getD ws q 0 ≤ full
-          → Settled foundPaper (firstOf (freeIn ws n first)) (foundOf n (first + trailingZeros 64 ((full - getD ws q 0) / 2 ^ t))) tt
+          → min (first + trailingZeros 64 ((full - getD ws q 0) / 2 ^ t)) n ≡ firstOr n (freeIn ws n first)
       go some small =
           let l = first-left ws q t (omega arith) small some in
           let b : ℕ = trailingZeros 64 ((full - getD ws q 0) / 2 ^ t) in
-          found-at (freeAt ws) n first (first + b) (omega arith) (λ i a u. l .taken i (omega (arith, here)) (omega (arith, here)))
+          first-at (freeAt ws) n first (first + b) (omega arith) (λ i a u. l .taken i (omega (arith, here)) (omega (arith, here)))
           (λ e. l .free (ap (λ (x : ℕ). freeAt ws (x + b)) here ∙ e))
 
   -- in the next word that is not full
   pub next-word : (w p v : ℕ) → w ≡ getD ws (first / 64) 0 → w ≤ full → (full - w) / 2 ^ (first % 64) ≡ 0
       → Opened ws (first / 64 + 1) p → v ≡ getD ws p 0 → v ≤ full
-      → Settled foundPaper (firstOf (freeIn ws n first)) (foundOf n (64 * p + trailingZeros 64 (full - v))) tt
+      → min (64 * p + trailingZeros 64 (full - v)) n ≡ firstOr n (freeIn ws n first)
   next-word w p v w-is small none o v-is small-v = rw v-is (go (omega arith) (λ e. o .some (omega arith)))
     where
       full-id : (i : ℕ) → getD ws (i / 64) 0 ≡ full → freeAt ws i ≡ 0
@@ -189,13 +187,13 @@ module _ (ws : List ℕ) (n first : ℕ) where
       at b taken i a u (no l) = taken i (omega arith) (omega arith)
 
       go : getD ws p 0 ≤ full → full - getD ws p 0 ≢ 0
-          → Settled foundPaper (firstOf (freeIn ws n first)) (foundOf n (64 * p + trailingZeros 64 (full - getD ws p 0))) tt
+          → min (64 * p + trailingZeros 64 (full - getD ws p 0)) n ≡ firstOr n (freeIn ws n first)
       go small some =
           let z : (full - getD ws p 0) / 2 ^ 0 ≡ full - getD ws p 0 = div-one (full - getD ws p 0) in
           let b : ℕ = trailingZeros 64 (full - getD ws p 0) in
           let l : First ws p 0 (omega arith) small b =
           subst (λ (x : ℕ). First ws p 0 (omega arith) small (trailingZeros 64 x)) z (first-left ws p 0 (omega arith) small (λ e. some (sym z ∙ e))) in
           let y : 64 * p + 0 ≡ 64 * p = omega arith in
-          found-at (freeAt ws) n first (64 * p + b) (omega (arith, o .skipped .from))
+          first-at (freeAt ws) n first (64 * p + b) (omega (arith, o .skipped .from))
           (λ i a u. at b (l .taken) i a u (decLt i (64 * p)))
           (λ e. l .free (ap (λ (x : ℕ). freeAt ws (x + b)) y ∙ e))

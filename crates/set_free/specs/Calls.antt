@@ -17,7 +17,15 @@ searchStart = 0
 unfoldable pub freeFrom : ℕ → List ℕ → ℕ → List ℕ
 freeFrom N s first = places (λ i. 1 - on N s 0 i) first (N - first)
 
--- the lowest of them
+-- the lowest of them, or n where there is none: N in a store, and 0 of a slice that is none
+abbrev pub firstOr : ℕ → List ℕ → ℕ
+firstOr n [] = n
+firstOr n (i ∷ l) = i
+
+unfoldable pub lowestOf : List ℕ → ℕ
+lowestOf s = cond (isStore s) (firstOr (cap s) (freeFrom (cap s) s searchStart)) 0
+
+-- the same as an answer
 abbrev pub firstOf : List ℕ → Outcome (Unit {0})
 firstOf [] = refuses 12 tt
 firstOf (i ∷ l) = gives i tt

@@ -1,15 +1,11 @@
 -- What the private steps ask and answer, of layer 0 as a list of words.
-use mathlib.Core.Bool.{cond}
 use mathlib.Core.List.{List}
 use mathlib.Core.Logic.{_≢_}
 use mathlib.Core.Path.{_≡_}
 use Prim.Native.Nat.{ℕ, _-_, _/_, _%_, _≤_, _<_, max}
-use lib.Dec.{ltb}
 use lib.ListN.{length, getD}
 use Rattle.util.specs.Word.{bit, places}
 use Rattle.store.specs.Layout.{maxCap}
-use Rattle.store.specs.declared.Found.{Found}
-use Rattle.store.specs.declared.Found.the-variants.{At, Refused}
 
 -- a word with every bit set
 abbrev pub full : ℕ
@@ -25,14 +21,15 @@ pub record Skipped (ws : List ℕ) (q r : ℕ) : Type 0 where
   pub upto : r ≤ max q (length ws)
   pub passed : FullIn ws q r
 
+-- and word r is not, where it stands before `end`
+pub record Passed (ws : List ℕ) (q end r : ℕ) : Type 0 where
+  pub skipped : Skipped ws q r
+  pub some : r < end → getD ws r 0 ≢ full
+
 -- and word r is not
 pub record Opened (ws : List ℕ) (q r : ℕ) : Type 0 where
   pub skipped : Skipped ws q r
   pub some : getD ws r 0 ≢ full
-
--- id i, or refusal 12 if it is none below n
-unfoldable pub foundOf : ℕ → ℕ → Found
-foundOf n i = cond (ltb i n) (At i) (Refused 12)
 
 -- 1 where id i is free
 abbrev pub freeAt : List ℕ → ℕ → ℕ

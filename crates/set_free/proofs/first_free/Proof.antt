@@ -1,9 +1,9 @@
--- `first_free` meets its contract: layer 0 is lent to the search. Assumes nothing.
+-- `first_free` meets its contract. Assumes nothing.
 use native.Mathlib.Omega.{arith}
 use borrow.Author.Needs.{needs}
 use Rattle.store.specs.Layout.{StoreOf}
-use Rattle.store.proofs.Ends.{some-store, no-store, lent0}
-use Rattle.set_free.proofs.Lowest.{lent-small, answered, free-2}
+use Rattle.store.proofs.Ends.{some-store, no-store}
+use Rattle.set_free.proofs.Lowest.{free-2, free-at, free-12}
 use Rattle.set_free.proofs.first_free.Statement.{statement}
 use Rattle.set_free.proofs.first_free.Tie as tie
 
@@ -11,51 +11,23 @@ capacity-requires : tie.Need-capacity-requires
 capacity-requires c κs = search needs
 
 returns : tie.Need-returns
-returns c =
-    let y = c .before in
-    let s = y .before .before .args .store .now in
-    free-2 s (no-store s (y .capacity .ensures) (c .if1 .taken))
+returns c = let y = c .before in free-2 _ (no-store _ (y .capacity .ensures) (c .if1 .taken))
 
 -- past the test the slice is a store
 store-here : (c : tie.Else1) → StoreOf (c .before .capacity .result) (c .before .before .before .args .store .now)
-store-here c = some-store (c .before .before .before .args .store .now) (c .before .capacity .ensures) (c .if1 .left)
+store-here c = some-store _ (c .before .capacity .ensures) (c .if1 .left)
 
-start-requires : tie.Need-start-requires
-start-requires c κs = search needs
+lowest-free-requires : tie.Need-lowest-free-requires
+lowest-free-requires c κs = search needs
 
-mul-search : tie.Need-mul-search
-mul-search c = omega (arith, lent0 (store-here (c .before)) (c .start .ensures) .inside)
-
-sub-search : tie.Need-sub-search
-sub-search c = lent0 (store-here (c .before)) (c .start .ensures) .inside
-
-part-search-start : tie.Need-part-search-start
-part-search-start c = omega (arith, lent0 (store-here (c .before)) (c .start .ensures) .inside)
-
-part-search-end : tie.Need-part-search-end
-part-search-end c = search needs
-
-search-requires : tie.Need-search-requires
-search-requires c κs =
-    let a = c .before in
-    lent-small (store-here (a .before)) (a .start .ensures) (omega arith)
+cast-if2 : tie.Need-cast-if2
+cast-if2 c = search needs
 
 returns-2 : tie.Need-returns-2
-returns-2 c =
-    let a = c .before .before in
-    let d = a .before in
-    answered (store-here d) (a .start .ensures) (λ i. d .before .before .shared-slice-known .given i .fits) (c .search .ensures)
+returns-2 c = let l = c .before in free-at (store-here (l .before)) (l .lowest-free .ensures) (c .if2 .taken)
+
+returns-3 : tie.Need-returns-3
+returns-3 c = let l = c .before in free-12 (store-here (l .before)) (l .lowest-free .ensures) (omega (arith, c .if2 .left))
 
 pub first-free-spec : {M : Type 1} → statement M
-first-free-spec =
-    tie.close
-    (tie.spec
-    capacity-requires
-    returns
-    start-requires
-    mul-search
-    sub-search
-    part-search-start
-    part-search-end
-    search-requires
-    returns-2)
+first-free-spec = tie.close (tie.spec capacity-requires returns lowest-free-requires cast-if2 returns-2 returns-3)

@@ -1,57 +1,40 @@
--- `open_word` meets its contract: the words from `q` to `i` are full. Assumes nothing.
-use Prim.Native.Nat.{_-_}
+-- `open_word` meets its contract: near, or behind words that are passed eight a turn. Assumes nothing.
+use mathlib.Core.Logic.{⊎-elim}
+use Prim.Native.Nat.{_≤_}
 use native.Mathlib.Omega.{arith}
+use borrow.Author.Needs.{needs}
 use lib.ListN.{length}
-use Rattle.set_free.specs.Steps.{Skipped}
-use Rattle.set_free.proofs.Words.{skipped-one, opened-end}
+use Rattle.set_free.proofs.Words.{skipped-on, opened-where}
 use Rattle.set_free.proofs.open_word.Statement.{statement}
 use Rattle.set_free.proofs.open_word.Tie as tie
 
-abbrev Inv-loop : tie.InvT-loop
-Inv-loop layer q i₀ i = Skipped layer q i
+add-if1 : tie.Need-add-if1
+add-if1 c = search needs
 
-abbrev μ-loop : tie.MeasureT-loop
-μ-loop layer q i₀ i = length layer - i
+add-near : tie.Need-add-near
+add-near c = search needs
 
-skip-requires : tie.Need-skip-requires Inv-loop μ-loop
-skip-requires c κs = c .before .pre
+-- what is near ends no later than the layer
+near-in : (c : tie.Joined1) → c .if1 .near ≤ length (c .before .before .args .layer .now)
+near-in c = ⊎-elim (λ w. omega arith) (λ w. omega arith) (c .if1 .came)
 
-loop-holds : tie.Need-loop-holds Inv-loop μ-loop
-loop-holds c = c .skip .ensures
+pass-requires : tie.Need-pass-requires
+pass-requires c κs = near-in c
 
-mul-if1 : tie.Need-mul-if1 Inv-loop μ-loop
-mul-if1 c = omega arith
+returns : tie.Need-returns
+returns c = let p = c .before .pass .ensures in record { skipped = p .skipped; some = p .some (c .if2 .taken) }
 
-shared-slice-read-if1 : tie.Need-shared-slice-read-if1 Inv-loop μ-loop
-shared-slice-read-if1 c = c .before .loop-test .taken
+skip-requires : tie.Need-skip-requires
+skip-requires c κs = search needs
 
-returns : tie.Need-returns Inv-loop μ-loop
-returns c = record { skipped = c .before .before .before .loop .inv; some = c .if1 .taken }
+pass-requires-2 : tie.Need-pass-requires-2
+pass-requires-2 c κs = search needs
 
-add-i : tie.Need-add-i Inv-loop μ-loop
-add-i c = omega (arith, c .before .before .loop-test .taken)
-
-loop-less : tie.Need-loop-less Inv-loop μ-loop
-loop-less c = omega (arith, c .before .before .loop-test .taken)
-
-loop-again : tie.Need-loop-again Inv-loop μ-loop
-loop-again c = skipped-one (c .before .before .before .loop .inv) (c .before .before .loop-test .taken) (c .if1 .left)
-
-returns-2 : tie.Need-returns-2 Inv-loop μ-loop
-returns-2 c = opened-end (c .before .loop .inv) (c .loop-test .left)
+returns-2 : tie.Need-returns-2
+returns-2 c =
+    let k = c .before in
+    let p = k .before .before in
+    opened-where (skipped-on (skipped-on (p .pass .ensures .skipped) (k .skip .ensures)) (c .pass2 .ensures .skipped)) (c .pass2 .ensures .some)
 
 pub open-word-spec : {M : Type 1} → statement M
-open-word-spec =
-    tie.close
-    (tie.spec
-    Inv-loop
-    μ-loop
-    skip-requires
-    loop-holds
-    mul-if1
-    shared-slice-read-if1
-    returns
-    add-i
-    loop-less
-    loop-again
-    returns-2)
+open-word-spec = tie.close (tie.spec add-if1 add-near pass-requires returns skip-requires pass-requires-2 returns-2)

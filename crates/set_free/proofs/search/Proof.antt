@@ -1,13 +1,9 @@
 -- `search` meets its contract: in the word of the first id, or in the next that is not full. Assumes nothing.
-use mathlib.Core.Path.{sym, subst}
+use mathlib.Core.Path.{_∙_}
 use Prim.Native.Nat.{_-_, _/_, _%_, _^_, _≤_}
 use native.Mathlib.Omega.{arith}
 use lib.Count.{trailing-le}
-use Rattle.util.specs.Outcome.{Settled}
-use Rattle.store.specs.Answer.{foundPaper}
-use Rattle.store.specs.declared.Found.{Found}
-use Rattle.set_free.specs.Calls.{firstOf}
-use Rattle.set_free.specs.Steps.{full, freeIn}
+use Rattle.set_free.specs.Steps.{full}
 use Rattle.set_free.proofs.Words.{own-word, next-word}
 use Rattle.set_free.proofs.search.Statement.{statement}
 use Rattle.set_free.proofs.search.Tie as tie
@@ -19,23 +15,23 @@ shr-left : tie.Need-shr-left
 shr-left c = omega arith
 
 -- the lowest bit is no more than 64
-cast-answer : tie.Need-cast-answer
-cast-answer c = omega (arith, trailing-le 64 ((full - c .before .get .result) / 2 ^ (c .before .before .before .args .first % 64)))
+cast-within : tie.Need-cast-within
+cast-within c = omega (arith, trailing-le 64 ((full - c .before .get .result) / 2 ^ (c .before .before .before .args .first % 64)))
 
-add-answer : tie.Need-add-answer
-add-answer c =
+add-within : tie.Need-add-within
+add-within c =
     let s = c .before .before .before in
     omega (arith, trailing-le 64 ((full - c .before .get .result) / 2 ^ (s .args .first % 64)), s .pre .first-in)
 
-answer-requires : tie.Need-answer-requires
-answer-requires c κs = c .before .before .before .pre .most
+within-requires : tie.Need-within-requires
+within-requires c κs = c .before .before .before .pre .most
 
 returns : tie.Need-returns
 returns c =
     let g = c .before .before in
     let a = g .before .before .args in
-    subst (λ (r : Found). Settled foundPaper (firstOf (freeIn (a .layer .now) (a .n) (a .first))) r tt) (sym (c .answer .ensures))
-    (own-word (a .layer .now) (a .n) (a .first) (g .get .result) (g .get .ensures) (omega (arith, g .get .ok)) (c .before .if1 .taken))
+    c .within .ensures
+    ∙ own-word (a .layer .now) (a .n) (a .first) (g .get .result) (g .get .ensures) (omega (arith, g .get .ok)) (c .before .if1 .taken)
 
 add-open-word : tie.Need-add-open-word
 add-open-word c = omega arith
@@ -52,17 +48,17 @@ near c =
     let s = c .before .before .before .before in
     omega (arith, c .open-word .ensures .skipped .upto, s .pre .first-in, s .pre .long)
 
-mul-answer : tie.Need-mul-answer
-mul-answer c = omega (arith, near (c .before))
+mul-within : tie.Need-mul-within
+mul-within c = omega (arith, near (c .before))
 
-cast-answer-2 : tie.Need-cast-answer-2
-cast-answer-2 c = omega (arith, trailing-le 64 (full - c .get2 .result))
+cast-within-2 : tie.Need-cast-within-2
+cast-within-2 c = omega (arith, trailing-le 64 (full - c .get2 .result))
 
-add-answer-2 : tie.Need-add-answer-2
-add-answer-2 c = omega (arith, trailing-le 64 (full - c .get2 .result), near (c .before))
+add-within-2 : tie.Need-add-within-2
+add-within-2 c = omega (arith, trailing-le 64 (full - c .get2 .result), near (c .before))
 
-answer-requires-2 : tie.Need-answer-requires-2
-answer-requires-2 c κs = c .before .before .before .before .before .pre .most
+within-requires-2 : tie.Need-within-requires-2
+within-requires-2 c κs = c .before .before .before .before .before .pre .most
 
 returns-2 : tie.Need-returns-2
 returns-2 c =
@@ -70,9 +66,9 @@ returns-2 c =
     let o = d .before in
     let g = o .before .before in
     let a = g .before .before .args in
-    subst (λ (r : Found). Settled foundPaper (firstOf (freeIn (a .layer .now) (a .n) (a .first))) r tt) (sym (c .answer2 .ensures))
-    (next-word (a .layer .now) (a .n) (a .first) (g .get .result) (o .open-word .result) (d .get2 .result) (g .get .ensures) (omega (arith, g .get .ok))
-    (o .before .if1 .left) (o .open-word .ensures) (d .get2 .ensures) (omega (arith, d .get2 .ok)))
+    c .within2 .ensures
+    ∙ next-word (a .layer .now) (a .n) (a .first) (g .get .result) (o .open-word .result) (d .get2 .result) (g .get .ensures) (omega (arith, g .get .ok))
+    (o .before .if1 .left) (o .open-word .ensures) (d .get2 .ensures) (omega (arith, d .get2 .ok))
 
 pub search-spec : {M : Type 1} → statement M
 search-spec =
@@ -80,15 +76,15 @@ search-spec =
     (tie.spec
     get-requires
     shr-left
-    cast-answer
-    add-answer
-    answer-requires
+    cast-within
+    add-within
+    within-requires
     returns
     add-open-word
     open-word-requires
     get-requires-2
-    mul-answer
-    cast-answer-2
-    add-answer-2
-    answer-requires-2
+    mul-within
+    cast-within-2
+    add-within-2
+    within-requires-2
     returns-2)
