@@ -68,24 +68,22 @@ module _ {P : ℕ → List ℕ → Type 0} (k : Inherited P) where
       go true a e = new-left (d .store) n (room-in (length (d .store)) (length (d .owners)) n (eqb-true _ 0 a) .0)
       go false a e = e .0
 
-  give-left : (d : Directory) (x : ℕ) {y : Directory} → y ≡ giveOf d x .lent → P (cap (d .store)) (d .store) → P (cap (d .store)) (y .store) × Unit {0}
+  -- what an outcome leaves of a directory's store, at the capacity that it had
+  abbrev LeftOf : Directory → Outcome Directory → Type 0
+  LeftOf d o = P (cap (d .store)) (o .lent .store)
+
+  give-left : (d : Directory) (x : ℕ) → P (cap (d .store)) (d .store) → LeftOf d (giveOf d x)
   unfolding giveOf
-  give-left d x q p =
-      (subst (λ (z : Directory). P (cap (d .store)) (z .store)) (sym q) (by-cond Q (eqb (itemRefusal d x) 0) (by-cond Q (eqb (refusalNumber f) 0) (k .handed-on p (adds (valueOf f))) p) p), tt)
-    where
-      f : Outcome (Unit {0})
-      f = firstFreeOf (d .store)
+  give-left d x p =
+      let f = firstFreeOf (d .store) in
+      by-cond (LeftOf d) (eqb (itemRefusal d x) 0) (by-cond (LeftOf d) (eqb (refusalNumber f) 0) (k .handed-on p (adds (valueOf f))) p) p
 
-      Q : Outcome Directory → Type 0
-      Q o = P (cap (d .store)) (o .lent .store)
-
-  take-left : (d : Directory) (x i : ℕ) {y : Directory} → y ≡ takeBackOf d x i .lent → P (cap (d .store)) (d .store) → P (cap (d .store)) (y .store) × Unit {0}
+  take-left : (d : Directory) (x i : ℕ) → P (cap (d .store)) (d .store) → LeftOf d (takeBackOf d x i)
   unfolding takeBackOf
-  take-left d x i q p =
-      (subst (λ (z : Directory). P (cap (d .store)) (z .store)) (sym q) (by-cond Q (eqb (returnRefusal d x i) 0) (k .handed-on p (removes i)) p), tt)
-    where
-      Q : Outcome Directory → Type 0
-      Q o = P (cap (d .store)) (o .lent .store)
+  take-left d x i p = by-cond (LeftOf d) (eqb (returnRefusal d x i) 0) (k .handed-on p (removes i)) p
+
+  store-left : {N : ℕ} {y u : Directory} → y ≡ u → P N (u .store) → P N (y .store) × Unit {0}
+  store-left {N} q p = (subst (λ (z : Directory). P N (z .store)) (sym q) p, tt)
 
   -- every call hands it on
   calls-leave : (c : Call) (r : Answered (promiseOf c)) (y : Memory (promiseOf c)) → Meets (promiseOf c) r y
@@ -122,8 +120,8 @@ module _ {P : ℕ → List ℕ → Type 0} (k : Inherited P) where
   calls-leave (mapLength s) r y m e = tt
   calls-leave (mapCapacity bs) r y m e = tt
   calls-leave (openDirectory d n) r y m e = directory-left d n (m .memory) e
-  calls-leave (give d x) r y m e = give-left d x (m .memory) (e .0)
-  calls-leave (takeBack d x i) r y m e = take-left d x i (m .memory) (e .0)
+  calls-leave (give d x) r y m e = store-left (m .memory) (give-left d x (e .0))
+  calls-leave (takeBack d x i) r y m e = store-left (m .memory) (take-left d x i (e .0))
   calls-leave (iterR v) r y m e = tt
   calls-leave (nextR it b) r y m e = tt
   calls-leave (firstR s b) r y m e = tt

@@ -1,5 +1,5 @@
 -- Every reached store is a store of its capacity, of words, and sound; and every sound store is reached.
-use mathlib.Core.Bool.{true, false}
+use mathlib.Core.Bool.{true}
 use mathlib.Core.List.{List, [], _∷_, List·Memᴰ}
 use mathlib.Core.List.List·Memᴰ.{List·Memᴰ·head, List·Memᴰ·tail}
 use mathlib.Core.Logic.{_↔_, inl, ⊎-elim}
@@ -8,7 +8,6 @@ use Prim.Native.Nat.{ℕ, _≤_, _<_}
 use native.Mathlib.Omega.{arith}
 use borrow.Author.Tests.{eq-eqb, le-leb, lt-ltb}
 use lib.ListN.{length}
-use Rattle.store.specs.Answer.{says, refuses}
 use Rattle.store.specs.Build.{empty}
 use Rattle.store.specs.Layout.{maxCap, isCap, storeLen, cap}
 use Rattle.store.specs.Word.{Member, members, SoundStore}
@@ -16,7 +15,7 @@ use Rattle.store.proofs.Build.{fine-empty}
 use Rattle.store.proofs.Geometry.{is-store}
 use Rattle.store.proofs.Members.{own, members-are, fine-same}
 use Rattle.set_edit.specs.Calls.{allBelow, addListOf}
-use Rattle.set_laws.proofs.Theorems.{fine-after, fine-after-list, member-add-list}
+use Rattle.set_laws.proofs.Theorems.{fine-after-add, fine-after-remove, fine-after-list, member-add-list}
 use Rattle.set_whole.specs.Calls.{openRefusal, openOf, clearOf}
 use Rattle.set_whole.proofs.Theorems.{opened as opened-none}
 use Rattle.summary.proofs.Said.{rebuild-same}
@@ -44,8 +43,8 @@ fine-open {N} s some most l = subst (SoundStore N) (sym (open-empties s some mos
 
 -- ONE CALL on a sound store leaves a sound store of its capacity.
 pub fine-one : {N : ℕ} {s u : List ℕ} → SoundStore N s → OneCall N s u → SoundStore N u
-fine-one {s = s} f (adds i) = fine-after true (refuses 3 s) f i refl
-fine-one {s = s} f (removes i) = fine-after false (says false s) f i refl
+fine-one f (adds i) = fine-after-add f i
+fine-one f (removes i) = fine-after-remove f i
 fine-one f (lists ids) = fine-after-list f ids
 fine-one f clears = fine-clear f
 fine-one {N} {s} f rebuilds = let g = own f in subst (SoundStore N) (sym (rebuild-same s (g .is) (g .words) (g .sound))) f

@@ -21,7 +21,7 @@ use Rattle.set_member.specs.Calls.{containsOf}
 use Rattle.set_edit.specs.Calls.{moveOf, addOf, removeOf, allBelow, addListOf}
 use Rattle.set_whole.specs.Calls.{openRefusal, openOf, clearOf, isEmptyOf, equalOf}
 use Rattle.set_layers.specs.Calls.{wordOf, layerPart}
-use Rattle.set_free.specs.Calls.{freeFrom, firstOf, firstFreeOf}
+use Rattle.set_free.specs.Calls.{searchStart, freeFrom, firstOf, firstFreeOf}
 use Rattle.set_superset.specs.Calls.{containsSetOf}
 use Rattle.summary.specs.Calls.{rebuildOf, isSoundOf}
 use Rattle.walk.specs.Calls.{stepPaper, written, refused, fits, startIn, nextIn}
@@ -114,7 +114,7 @@ part-stays s k = go (layerPart s k)
 
 free-stays : (s : List ℕ) → Stays foundPaper FoundRefused tt (firstFreeOf s)
 unfolding firstFreeOf
-free-stays s = choose (isStore s) (go (freeFrom (cap s) s 0)) (no-goes 2 refl refl)
+free-stays s = choose (isStore s) (go (freeFrom (cap s) s searchStart)) (no-goes 2 refl refl)
   where
     go : (l : List ℕ) → Stays foundPaper FoundRefused tt (firstOf l)
     go [] = no-goes 12 refl refl

@@ -14,7 +14,7 @@ use Rattle.store.proofs.Geometry.{store-is}
 use Rattle.set_free.specs.Calls.{firstFreeOf, LowestFree}
 use Rattle.set_free.proofs.Lowest.{free-told, free-found}
 use Rattle.directory.specs.Calls.{Directory, refusalNumber, valueOf, unless, itemRefusal, returnRefusal, giveOf, takeBackOf}
-use Rattle.directory.proofs.Answers.{ForItem, judged, Returned, returned}
+use Rattle.directory.proofs.Answers.{judged, Returned, returned}
 
 -- what holds of the refused, and of the accepted where nothing stands in the way, holds of the call
 pub by-unless : (Q : Outcome Directory → Type 0) (r : ℕ) (d : Directory) (o : Outcome Directory) → (r ≢ 0 → Q (refuses r d)) → (r ≡ 0 → Q o)
@@ -36,14 +36,14 @@ found-lowest s h z = ⊎-elim found full (free-told s (store-is h))
     full g = absurd (omega (arith, sym z ∙ ap refusalNumber g))
 
 -- "GIVE TAKES THE LOWEST FREE CHUNK", in every store: it was no member, and every lower one from the search's first on is
-pub give-lowest : (d : Directory) (x : ℕ) → refusalNumber (giveOf d x) ≡ 0 → ForItem d x × LowestFree (d .store) (valueOf (giveOf d x))
+pub give-lowest : (d : Directory) (x : ℕ) → refusalNumber (giveOf d x) ≡ 0 → LowestFree (d .store) (valueOf (giveOf d x))
 unfolding giveOf
 give-lowest d x =
     by-unless Q (itemRefusal d x) d _ (λ n e. absurd (n e))
-    (λ j. by-unless Q (refusalNumber (firstFreeOf (d .store))) d _ (λ n e. absurd (n e)) (λ z e. (judged d x j, found-lowest (d .store) (judged d x j .is) z)))
+    (λ j. by-unless Q (refusalNumber (firstFreeOf (d .store))) d _ (λ n e. absurd (n e)) (λ z e. found-lowest (d .store) (judged d x j .is) z))
   where
     Q : Outcome Directory → Type 0
-    Q o = refusalNumber o ≡ 0 → ForItem d x × LowestFree (d .store) (valueOf o)
+    Q o = refusalNumber o ≡ 0 → LowestFree (d .store) (valueOf o)
 
 -- "return needs the item that owns it"
 pub return-owned : (d : Directory) (x c : ℕ) → refusalNumber (takeBackOf d x c) ≡ 0 → Returned d x c

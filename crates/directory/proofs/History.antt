@@ -282,5 +282,5 @@ used-again d ks o x c z js y n g = go (decLt c (valueOf (giveOf u y)))
     start = h .from c (h .owned c .1 (x, record { item = k .judged .item; byte = k .byte }))
 
     go : Dec (c < valueOf (giveOf u y)) → valueOf (giveOf u y) ≤ c
-    go (yes l) = absurd (stays-free c _ js n (returned-free e x c z) (give-lowest u y g .1 .lowest c start l))
+    go (yes l) = absurd (stays-free c _ js n (returned-free e x c z) (give-lowest u y g .lowest c start l))
     go (no l) = omega (arith, l)

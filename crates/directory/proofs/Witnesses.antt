@@ -1,42 +1,46 @@
 -- NO CLAIM IS EMPTY: slices of the right lengths are opened, and then a chunk is given and returned.
 use mathlib.Core.Bool.{true}
-use mathlib.Core.List.{[], _∷_}
+use mathlib.Core.List.{List, [], _∷_}
 use mathlib.Core.Logic.{⊎-elim}
 use mathlib.Core.Path.{_≡_, refl, sym, ap, _∙_}
 use Prim.Native.Nat.{ℕ, _<_}
 use native.Mathlib.Omega.{arith}
 use borrow.Author.Tests.{eq-eqb}
-use lib.ListN.{length}
-use Rattle.store.specs.Answer.{gives, refuses}
+use lib.ListN.{length, replicate}
+use Rattle.store.specs.Answer.{gives, does, refuses}
 use Rattle.store.specs.Layout.{cap}
-use Rattle.store.specs.Word.{Member}
+use Rattle.store.specs.Word.{Member, countBelow, SoundStore}
 use Rattle.store.proofs.Geometry.{is-store}
 use Rattle.set_free.specs.Calls.{searchStart, firstFreeOf}
 use Rattle.set_free.proofs.Lowest.{free-told, free-none}
+use Rattle.set_whole.specs.Calls.{openOf}
 use Rattle.set_whole.proofs.Theorems.{opened-by}
-use Rattle.directory.specs.Calls.{Directory, ownerAt, refusalNumber, valueOf, isItem, roomRefusal, itemRefusal, directoryOpenOf, giveOf, takeBackOf}
+use Rattle.directory.specs.Calls.{Directory, directory, ownerAt, refusalNumber, valueOf, isItem, roomRefusal, itemRefusal, directoryOpenOf, giveOf, takeBackOf}
 use Rattle.directory.specs.History.{historyOf, InOrder}
 use Rattle.directory.specs.History.DirectoryCall.{opening, giving}
 use Rattle.directory.proofs.Answers.{room-in, judge-0, return-0}
 use Rattle.directory.proofs.History.{in-order}
 
 module _ (d : Directory) (N : ℕ) (room : roomRefusal (length (d .store)) (length (d .owners)) N ≡ 0) where
-  pub some-opens : historyOf d (opening N ∷ []) .figures .opened ≡ true
+  abbrev new : List ℕ
+  new = openOf (d .store) N .lent
+
+  goes-through : directoryOpenOf d N ≡ does (directory new (replicate N 0))
   unfolding directoryOpenOf
-  some-opens = rw (eq-eqb (roomRefusal (length (d .store)) (length (d .owners)) N) 0 room)
+  goes-through = rw (eq-eqb (roomRefusal (length (d .store)) (length (d .owners)) N) 0 room)
+
+  pub some-opens : historyOf d (opening N ∷ []) .figures .opened ≡ true
+  some-opens = rw goes-through
 
   -- no chunk is taken then
+  opened-new : SoundStore N new × ((i : ℕ) → Member new i → ⊥) × (countBelow N new N ≡ 0)
+  opened-new = opened-by (d .store) N (room-in (length (d .store)) (length (d .owners)) N room .0)
+
   opened-free : (i : ℕ) → Member (historyOf d (opening N ∷ []) .now .store) i → ⊥
-  unfolding directoryOpenOf
-  opened-free =
-      rw (eq-eqb (roomRefusal (length (d .store)) (length (d .owners)) N) 0 room)
-      (opened-by (d .store) N (room-in (length (d .store)) (length (d .owners)) N room .0) .1)
+  opened-free = rw goes-through (opened-new .1)
 
   opened-cap : cap (historyOf d (opening N ∷ []) .now .store) ≡ N
-  unfolding directoryOpenOf
-  opened-cap =
-      rw (eq-eqb (roomRefusal (length (d .store)) (length (d .owners)) N) 0 room)
-      (opened-by (d .store) N (room-in (length (d .store)) (length (d .owners)) N room .0) .0 .is .names)
+  opened-cap = rw goes-through (opened-new .0 .is .names)
 
   module _ (some : searchStart < N) (x : ℕ) (item : isItem x ≡ true) where
     abbrev e : Directory

@@ -77,7 +77,8 @@ fn zero(owners: &mut [u8])
 // The chunk becomes a member, and its byte the item.
 fn hand(store: &mut [u64], owners: &mut [u8], item: u32, chunk: u32)
     requires { ⌜ (item < 256) × (chunk < length (now owners)) ⌝ }
-    ensures { λ r. ⌜ (now (store .exit) ≡ addOf (now (store .entry)) chunk .lent) × (now (owners .exit) ≡ set (now (owners .entry)) chunk item) ⌝ }
+    ensures { λ r. ⌜ (now (store .exit) ≡ addOf (now (store .entry)) chunk .lent)
+        × (now (owners .exit) ≡ set (now (owners .entry)) chunk item) ⌝ }
 {
     set_edit::add(store, chunk);
     owners[chunk as usize] = item as u8;
@@ -86,7 +87,8 @@ fn hand(store: &mut [u64], owners: &mut [u8], item: u32, chunk: u32)
 // The chunk is no member any more, and its byte is 0.
 fn release(store: &mut [u64], owners: &mut [u8], chunk: u32)
     requires { ⌜ chunk < length (now owners) ⌝ }
-    ensures { λ r. ⌜ (now (store .exit) ≡ removeOf (now (store .entry)) chunk .lent) × (now (owners .exit) ≡ set (now (owners .entry)) chunk 0) ⌝ }
+    ensures { λ r. ⌜ (now (store .exit) ≡ removeOf (now (store .entry)) chunk .lent)
+        × (now (owners .exit) ≡ set (now (owners .entry)) chunk 0) ⌝ }
 {
     set_edit::remove(store, chunk);
     owners[chunk as usize] = 0;
@@ -94,7 +96,8 @@ fn release(store: &mut [u64], owners: &mut [u8], chunk: u32)
 
 // Empties the store and the bytes, for a capacity of n.
 pub fn open(store: &mut [u64], owners: &mut [u8], n: u32) -> Did
-    ensures { λ r. ⌜ Settled didPaper (directoryOpenOf (directory (now (store .entry)) (now (owners .entry))) n) r (directory (now (store .exit)) (now (owners .exit))) ⌝ }
+    ensures { λ r. ⌜ Settled didPaper (directoryOpenOf (directory (now (store .entry)) (now (owners .entry))) n) r
+        (directory (now (store .exit)) (now (owners .exit))) ⌝ }
 {
     let no = judge_open(store.len(), owners.len(), n as usize);
     if no != 0 {
@@ -107,7 +110,8 @@ pub fn open(store: &mut [u64], owners: &mut [u8], n: u32) -> Did
 
 // Gives the lowest free chunk to an item; answers which.
 pub fn give(store: &mut [u64], owners: &mut [u8], item: u32) -> Found
-    ensures { λ r. ⌜ Settled foundPaper (giveOf (directory (now (store .entry)) (now (owners .entry))) item) r (directory (now (store .exit)) (now (owners .exit))) ⌝ }
+    ensures { λ r. ⌜ Settled foundPaper (giveOf (directory (now (store .entry)) (now (owners .entry))) item) r
+        (directory (now (store .exit)) (now (owners .exit))) ⌝ }
 {
     let no = judge(store, owners, item);
     if no != 0 {
@@ -123,7 +127,8 @@ pub fn give(store: &mut [u64], owners: &mut [u8], item: u32) -> Found
 
 // Takes a chunk back from the item that owns it.
 pub fn take_back(store: &mut [u64], owners: &mut [u8], item: u32, chunk: u32) -> Did
-    ensures { λ r. ⌜ Settled didPaper (takeBackOf (directory (now (store .entry)) (now (owners .entry))) item chunk) r (directory (now (store .exit)) (now (owners .exit))) ⌝ }
+    ensures { λ r. ⌜ Settled didPaper (takeBackOf (directory (now (store .entry)) (now (owners .entry))) item chunk) r
+        (directory (now (store .exit)) (now (owners .exit))) ⌝ }
 {
     let no = judge_return(store, owners, item, chunk);
     if no != 0 {
