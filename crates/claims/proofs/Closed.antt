@@ -7,7 +7,7 @@ use borrow.Author.Tests.{eqb-true}
 use lib.Dec.{eqb}
 use lib.ListN.{length, replicate}
 use Rattle.util.specs.Outcome.{Outcome}
-use Rattle.store.specs.Answer.{does, refuses}
+use Rattle.store.specs.Answer.{does, refuses, refusalNumber, valueOf}
 use Rattle.store.specs.Layout.{maxCap, storeLen, cap}
 use Rattle.store.specs.Word.{SoundStore}
 use Rattle.store.specs.declared.Did.{Did}
@@ -16,7 +16,7 @@ use Rattle.set_whole.specs.Calls.{openRefusal, openOf}
 use Rattle.set_whole.proofs.Answers.{can-open}
 use Rattle.set_free.specs.Calls.{firstFreeOf}
 use Rattle.ops_merge.specs.Calls.{Assigned}
-use Rattle.directory.specs.Calls.{Directory, directory, refusalNumber, valueOf, roomRefusal, itemRefusal, returnRefusal, directoryOpenOf, giveOf, takeBackOf}
+use Rattle.directory.specs.Calls.{Directory, directory, roomRefusal, itemRefusal, returnRefusal, directoryOpenOf, giveOf, takeBackOf}
 use Rattle.directory.proofs.Answers.{room-in}
 use Rattle.claims.specs.Calls.{Answered, Memory, Meets, Call, promiseOf}
 use Rattle.claims.specs.Calls.Call.{«open», add, remove, contains, addList, isEmpty, clear, containsSet, equal, getFromLayer, layerAsSlice, averageOnes, firstFree, isSound, rebuild, bitorAssign, bitandAssign, bitxorAssign, start, next, fill, containsF, isEmptyF, getFromLayerF, startF, nextF, fillF, write, read, mapLength, mapCapacity, openDirectory, give, takeBack, iterR, nextR, firstR}

@@ -10,7 +10,7 @@ use lib.Dec.{leb, ltb, eqb}
 use lib.ListN.{length, getD}
 use denote.Ref.{now}
 use Rattle.util.proofs.Same.{both}
-use Rattle.store.specs.Answer.{askedPaper, didPaper, foundPaper, readPaper}
+use Rattle.store.specs.Answer.{askedPaper, didPaper, foundPaper, readPaper, refusalNumber}
 use Rattle.store.specs.Layout.{top, isCap, storeLen, cap, isStore}
 use Rattle.store.specs.declared.Asked.the-variants.{Refused as AskedRefused}
 use Rattle.store.specs.declared.Did.{Did}
@@ -134,7 +134,7 @@ assign-stays : (op : ℕ) (s t : List ℕ) → Stays didPaper DidRefused s (assi
 unfolding assignOf
 assign-stays op s t = choose (isStore s && isStore t) (choose (eqb (cap s) (cap t)) (goes refl) (no-goes 5 refl refl)) (no-goes 2 refl refl)
 
-pair-goes : (op : ℕ) (s t : List ℕ) → mergeable s t ≡ true → getD (assignOf op s t .numbers) 0 0 ≡ 0
+pair-goes : (op : ℕ) (s t : List ℕ) → mergeable s t ≡ true → refusalNumber (assignOf op s t) ≡ 0
 unfolding mergeable assignOf
 pair-goes op s t h = let b = both (isStore s && isStore t) (eqb (cap s) (cap t)) h in rw (b .0, b .1)
 
@@ -327,7 +327,7 @@ directory-stays d n =
 give-stays : (d : Directory) (x : ℕ) → Stays foundPaper FoundRefused d (giveOf d x)
 unfolding giveOf
 give-stays d x =
-    let f = getD (firstFreeOf (d .store) .numbers) 0 0 in
+    let f = refusalNumber (firstFreeOf (d .store)) in
     choose (eqb (itemRefusal d x) 0) (choose (eqb f 0) (goes refl) (no-goes f (free-stays (d .store) .known) refl)) (no-goes (itemRefusal d x) (item-known d x) refl)
 
 take-stays : (d : Directory) (x c : ℕ) → Stays didPaper DidRefused d (takeBackOf d x c)

@@ -8,7 +8,7 @@ use borrow.Author.Tests.{ne-eqb}
 use lib.Dec.{eqb}
 use lib.ListN.{getD}
 use Rattle.util.specs.Outcome.{Outcome, Paper, Settled}
-use Rattle.store.specs.Answer.{refuses}
+use Rattle.store.specs.Answer.{refuses, refusalNumber}
 use Rattle.claims.specs.Calls.{refusalNumbers, isAmong, Refuses}
 
 -- what holds of both cases holds of the one chosen
@@ -29,12 +29,12 @@ not-zero n h e = go (eqb n 0) (ne-eqb n 0 h) e
 
 -- where its first number is not 0, the outcome is a refusal
 pub record Stays {R X : Type 0} (p : Paper R) (f : ℕ → R) (x : X) (o : Outcome X) : Type 0 where
-  pub known : isKnown (getD (o .numbers) 0 0) ≡ true
-  pub numbers : getD (o .numbers) 0 0 ≢ 0 → o .numbers ≡ p .numbers (f (getD (o .numbers) 0 0))
-  pub lent : getD (o .numbers) 0 0 ≢ 0 → o .lent ≡ x
+  pub known : isKnown (refusalNumber o) ≡ true
+  pub numbers : refusalNumber o ≢ 0 → o .numbers ≡ p .numbers (f (refusalNumber o))
+  pub lent : refusalNumber o ≢ 0 → o .lent ≡ x
 
 module _ {R X : Type 0} {p : Paper R} {f : ℕ → R} {x : X} where
-  pub goes : {o : Outcome X} → getD (o .numbers) 0 0 ≡ 0 → Stays p f x o
+  pub goes : {o : Outcome X} → refusalNumber o ≡ 0 → Stays p f x o
   goes e = record { known = rw e; numbers = λ n. absurd (n e); lent = λ n. absurd (n e) }
 
   pub no-goes : (n : ℕ) → isKnown n ≡ true → p .numbers (f n) ≡ n ∷ [] → Stays p f x (refuses n x)
@@ -47,12 +47,12 @@ module _ {R X : Type 0} {p : Paper R} {f : ℕ → R} {x : X} where
   pub refuses-so : {o : Outcome X} → Stays p f x o → {r : R} {y : X} → Settled p o r y → getD (p .numbers r) 0 0 ≢ 0
       → Refuses f x (getD (p .numbers r) 0 0) r y
   refuses-so {o} k {r} s n =
-      let e : getD (p .numbers r) 0 0 ≡ getD (o .numbers) 0 0 = ap (λ (l : List ℕ). getD l 0 0) (s .answer) in
-      let m : getD (o .numbers) 0 0 ≢ 0 = λ z. n (e ∙ z) in
+      let e : getD (p .numbers r) 0 0 ≡ refusalNumber o = ap (λ (l : List ℕ). getD l 0 0) (s .answer) in
+      let m : refusalNumber o ≢ 0 = λ z. n (e ∙ z) in
       record {
-        known = subst (λ (i : ℕ). isAmong refusalNumbers i ≡ true) (sym e) (not-zero (getD (o .numbers) 0 0) m (k .known));
+        known = subst (λ (i : ℕ). isAmong refusalNumbers i ≡ true) (sym e) (not-zero (refusalNumber o) m (k .known));
         answer =
-            sym (p .same r) ∙ ap (p .answer) (s .answer ∙ k .numbers m) ∙ p .same (f (getD (o .numbers) 0 0))
+            sym (p .same r) ∙ ap (p .answer) (s .answer ∙ k .numbers m) ∙ p .same (f (refusalNumber o))
             ∙ ap f (sym e);
         memory = s .memory ∙ k .lent m;
       }

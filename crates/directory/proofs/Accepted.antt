@@ -8,12 +8,12 @@ use native.Mathlib.Decide.{ℕ-discrete}
 use native.Mathlib.Omega.{arith}
 use borrow.Author.Tests.{eq-eqb, ne-eqb}
 use Rattle.util.specs.Outcome.{Outcome}
-use Rattle.store.specs.Answer.{gives, refuses}
+use Rattle.store.specs.Answer.{gives, refuses, refusalNumber, valueOf}
 use Rattle.store.specs.Layout.{isStore}
 use Rattle.store.proofs.Geometry.{store-is}
 use Rattle.set_free.specs.Calls.{firstFreeOf, LowestFree}
 use Rattle.set_free.proofs.Lowest.{free-told, free-found}
-use Rattle.directory.specs.Calls.{Directory, refusalNumber, valueOf, unless, itemRefusal, returnRefusal, giveOf, takeBackOf}
+use Rattle.directory.specs.Calls.{Directory, unless, itemRefusal, returnRefusal, giveOf, takeBackOf}
 use Rattle.directory.proofs.Answers.{judged, Returned, returned}
 
 -- what holds of the refused, and of the accepted where nothing stands in the way, holds of the call

@@ -10,7 +10,7 @@ use borrow.Author.Tests.{eq-eqb, ne-eqb}
 use lib.ListN.{length, getD, set, replicate, length-set, length-replicate, getD-replicate, List·getD-eq-default}
 use lib.Seq.{getD-set-same, getD-set-other}
 use Rattle.util.specs.Outcome.{Outcome}
-use Rattle.store.specs.Answer.{refuses}
+use Rattle.store.specs.Answer.{refuses, refusalNumber, valueOf}
 use Rattle.store.specs.Layout.{cap, isStore}
 use Rattle.store.specs.Word.{Member, countBelow, SoundStore}
 use Rattle.store.proofs.Members.{own}
@@ -19,7 +19,7 @@ use Rattle.set_laws.proofs.Theorems.{fine-after-add, member-add, count-add, fin
 use Rattle.set_free.specs.Calls.{searchStart, firstFreeOf, LowestFree}
 use Rattle.set_whole.specs.Calls.{openOf}
 use Rattle.set_whole.proofs.Theorems.{opened-by}
-use Rattle.directory.specs.Calls.{Directory, directory, ownerAt, refusalNumber, valueOf, isItem, roomRefusal, itemRefusal, directoryOpenOf, giveOf, takeBackOf}
+use Rattle.directory.specs.Calls.{Directory, directory, ownerAt, isItem, roomRefusal, itemRefusal, directoryOpenOf, giveOf, takeBackOf}
 use Rattle.directory.specs.History.{DirectoryCall, outcomeOf, gave, Figures, ownedBy, afterAccepted, figuresAfter, History, oneMore, goOnWith, historyOf, Owns, InOrder, NoneGiven, UsedAgain}
 use Rattle.directory.specs.History.DirectoryCall.{opening, giving, returning}
 use Rattle.directory.proofs.Answers.{item-in, room-in, judged, Returned, returned}

@@ -7,7 +7,7 @@ use Prim.Native.Nat.{ℕ, _<_}
 use native.Mathlib.Omega.{arith}
 use borrow.Author.Tests.{eq-eqb}
 use lib.ListN.{length, replicate}
-use Rattle.store.specs.Answer.{gives, does, refuses}
+use Rattle.store.specs.Answer.{gives, does, refuses, refusalNumber, valueOf}
 use Rattle.store.specs.Layout.{cap}
 use Rattle.store.specs.Word.{Member, countBelow, SoundStore}
 use Rattle.store.proofs.Geometry.{is-store}
@@ -15,7 +15,7 @@ use Rattle.set_free.specs.Calls.{searchStart, firstFreeOf}
 use Rattle.set_free.proofs.Lowest.{free-told, free-none}
 use Rattle.set_whole.specs.Calls.{openOf}
 use Rattle.set_whole.proofs.Theorems.{opened-by}
-use Rattle.directory.specs.Calls.{Directory, directory, ownerAt, refusalNumber, valueOf, isItem, roomRefusal, itemRefusal, directoryOpenOf, giveOf, takeBackOf}
+use Rattle.directory.specs.Calls.{Directory, directory, ownerAt, isItem, roomRefusal, itemRefusal, directoryOpenOf, giveOf, takeBackOf}
 use Rattle.directory.specs.History.{historyOf, InOrder}
 use Rattle.directory.specs.History.DirectoryCall.{opening, giving}
 use Rattle.directory.proofs.Answers.{room-in, judge-0, return-0}

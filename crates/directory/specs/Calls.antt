@@ -5,7 +5,7 @@ use Prim.Native.Nat.{ℕ}
 use lib.Dec.{leb, ltb, eqb}
 use lib.ListN.{length, getD, set, replicate}
 use Rattle.util.specs.Outcome.{Outcome}
-use Rattle.store.specs.Answer.{gives, does, refuses}
+use Rattle.store.specs.Answer.{gives, does, refuses, refusalNumber, valueOf}
 use Rattle.store.specs.Layout.{cap, isStore}
 use Rattle.set_edit.specs.Calls.{addOf, removeOf}
 use Rattle.set_free.specs.Calls.{firstFreeOf}
@@ -22,13 +22,6 @@ directory s o = record { store = s; owners = o }
 -- the byte of chunk i
 abbrev pub ownerAt : Directory → ℕ → ℕ
 ownerAt d i = getD (d .owners) i 0
-
--- an outcome's refusal, 0 for none, and its value
-abbrev pub refusalNumber : {X : Type 0} → Outcome X → ℕ
-refusalNumber o = getD (o .numbers) 0 0
-
-abbrev pub valueOf : {X : Type 0} → Outcome X → ℕ
-valueOf o = getD (o .numbers) 1 0
 
 -- refused by the number, if it is one; else the outcome
 abbrev pub unless : ℕ → Directory → Outcome Directory → Outcome Directory

@@ -8,10 +8,11 @@ use Prim.Native.Nat.{ℕ, suc, _+_, _≤_}
 use lib.Dec.{eqb}
 use lib.ListN.{length}
 use Rattle.util.specs.Outcome.{Outcome}
+use Rattle.store.specs.Answer.{refusalNumber, valueOf}
 use Rattle.store.specs.Layout.{cap}
 use Rattle.store.specs.Word.{Member, countBelow, SoundStore}
 use Rattle.set_free.specs.Calls.{searchStart}
-use Rattle.directory.specs.Calls.{Directory, ownerAt, refusalNumber, valueOf, isItem, directoryOpenOf, giveOf, takeBackOf}
+use Rattle.directory.specs.Calls.{Directory, ownerAt, isItem, directoryOpenOf, giveOf, takeBackOf}
 
 -- one of the three calls, with any arguments
 pub data DirectoryCall : Type 0 where

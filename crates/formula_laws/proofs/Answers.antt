@@ -9,14 +9,14 @@ use native.Mathlib.Decide.{ℕ-discrete}
 use native.Mathlib.Omega.{arith}
 use borrow.Author.Tests.{lt-ltb, ltb-true, eq-eqb, ne-eqb, eqb-true}
 use lib.Dec.{ltb, eqb}
-use lib.ListN.{length, getD}
-use Rattle.util.specs.Outcome.{Outcome}
+use lib.ListN.{length}
 use Rattle.util.specs.Word.{bit}
 use Rattle.util.proofs.Bits.{bit-of-zero}
 use Rattle.util.proofs.Same.{both}
 use Rattle.store.specs.Answer.{says}
 use Rattle.store.specs.Layout.{top, cap}
 use Rattle.store.specs.Word.{anc, Sound, Words64}
+use Rattle.store.proofs.Answers.{says-yes}
 use Rattle.store.proofs.TopLayer.{top-one}
 use Rattle.store.proofs.Words.{word-lt, place-in, anc-in}
 use Rattle.walk_laws.specs.Under.{allIds}
@@ -37,10 +37,6 @@ no-members : (l : List ℕ) → ((i : ℕ) → List·Memᴰ i l → ⊥) → l �
 no-members [] n = refl
 no-members (a ∷ l) n = absurd (n a (List·Memᴰ·head refl))
 
-said-yes : (b : Bool) → _≡_ {A = Outcome (Unit {0})} (says b tt) (says true tt) → b ≡ true
-said-yes true e = refl
-said-yes false e = absurd (omega (arith, ap (λ (o : Outcome (Unit {0})). getD (o .numbers) 1 0) e))
-
 module _ (a b c d cs : List ℕ) (ok : checkOf (four a b c d) cs ≡ 0) (words : (x : ℕ) → Words64 (nth (four a b c d) x)) where
   abbrev ss : List (List ℕ)
   ss = four a b c d
@@ -58,7 +54,7 @@ module _ (a b c d cs : List ℕ) (ok : checkOf (four a b c d) cs ≡ 0) (words :
   unfolding formulaContainsOf onAt
   contains-among i = (
     λ e.
-        let t = both (ltb i N) (eqb w 1) (said-yes (ltb i N && eqb w 1) (sym is ∙ e)) in
+        let t = both (ltb i N) (eqb w 1) (says-yes (ltb i N && eqb w 1) (sym is ∙ e)) in
         let h = ltb-true i N (t .0) in
         (h, held-among N ss fit (treeOf cs) i h .0 (sym (bit-held h) ∙ eqb-true w 1 (t .1))),
     λ t. is ∙ rw (lt-ltb i N (t .0), eq-eqb w 1 (bit-held (t .0) ∙ held-among N ss fit (treeOf cs) i (t .0) .1 (t .1))),
@@ -91,7 +87,7 @@ module _ (a b c d cs : List ℕ) (ok : checkOf (four a b c d) cs ≡ 0) (words :
     -- IS_EMPTY says yes only where there is no member, over sound stores.
     pub empty-none : formulaIsEmptyOf ss cs ≡ says true tt → (i : ℕ) → i < cap a → Among ss (treeOf cs) i → ⊥
     empty-none e i h m =
-        let none = eqb-true _ 0 (said-yes (eqb (formulaWords ss cs (top (cap a)) 0) 0) (sym top-asked ∙ e)) in
+        let none = eqb-true _ 0 (says-yes (eqb (formulaWords ss cs (top (cap a)) 0) 0) (sym top-asked ∙ e)) in
         let nil = sym handed-out ∙ under-empty (formulaWords ss cs) (top (cap a)) 0 none in
         List·Memᴰ·not-nil (subst (List·Memᴰ i) nil (tree-members-are (cap a) ss (accepted a b c d cs ok .beside) (treeOf cs) i .1 (h, m)))
 

@@ -10,7 +10,7 @@ use borrow.Author.Tests.{lt-leb}
 use lib.Dec.{eqb}
 use lib.ListN.{length, getD, drop}
 use Rattle.util.specs.Outcome.{Outcome}
-use Rattle.store.specs.Answer.{gives, refuses}
+use Rattle.store.specs.Answer.{gives, refuses, refusalNumber, valueOf}
 use Rattle.store.specs.Layout.{cap, isStore, StoreOf}
 use Rattle.store.proofs.Geometry.{is-store, store-is}
 use Rattle.map_write.specs.Calls.{mapLengthOf, writeOf}
@@ -20,13 +20,6 @@ use Rattle.map_read.specs.Judge.{capIn, countIn, usedIn, tableIn, headOk, good,
 use Rattle.map_read.specs.Steps.{tableOf}
 use Rattle.map_read.proofs.Right.{map-taken, is-head, judge-9, judge-5, judge-table}
 use Rattle.map_laws.proofs.Theorems.{map-right, read-does, read-refuses, write-gives, written-is}
-
--- the first number of an outcome, and the second
-abbrev first : {X : Type 0} → Outcome X → ℕ
-first o = getD (o .numbers) 0 0
-
-abbrev second : {X : Type 0} → Outcome X → ℕ
-second o = getD (o .numbers) 1 0
 
 -- ---- HOW LONG A MAP IS
 
@@ -40,12 +33,12 @@ module _ {N : ℕ} {s : List ℕ} (z : StoreOf N s) where
   unfolding writeOf
   write-short b h = rw (is-store z, z .names, lt-leb (mapLen (toldWords N s)) (length b) h)
 
-  write-number : (b : List ℕ) → first (writeOf s b) ≢ 2
+  write-number : (b : List ℕ) → refusalNumber (writeOf s b) ≢ 2
   write-number b e = go (decLt (length b) (mapLen (toldWords N s)))
     where
       go : Dec (length b < mapLen (toldWords N s)) → ⊥
-      go (yes l) = omega (arith, sym e ∙ ap first (write-short b l))
-      go (no l) = omega (arith, sym e ∙ ap first (write-gives z b (omega arith)))
+      go (yes l) = omega (arith, sym e ∙ ap refusalNumber (write-short b l))
+      go (no l) = omega (arith, sym e ∙ ap refusalNumber (write-gives z b (omega arith)))
 
 module _ (s : List ℕ) (h : isStore s ≡ false) where
   length-none : mapLengthOf s ≡ refuses 2 tt
@@ -66,8 +59,8 @@ module _ (s : List ℕ) {n : ℕ} (e : mapLengthOf s ≡ gives n tt) where
   measured = go (isStore s) refl
     where
       go : (b : Bool) → isStore s ≡ b → Measured s n
-      go true i = record { is = store-is i; long = ap second (sym e ∙ length-gives (store-is i)) }
-      go false i = absurd (omega (arith, ap first (sym e ∙ length-none s i)))
+      go true i = record { is = store-is i; long = ap valueOf (sym e ∙ length-gives (store-is i)) }
+      go false i = absurd (omega (arith, ap refusalNumber (sym e ∙ length-none s i)))
 
   -- the writer answers that length wherever the buffer has room for it, and refuses by 8 where it has not
   pub length-written : (b : List ℕ) → n ≤ length b → writeOf s b .numbers ≡ 0 ∷ n ∷ []
@@ -84,8 +77,8 @@ length-refused s b = go (isStore s) refl
   where
     go : (x : Bool) → isStore s ≡ x → (mapLengthOf s ≡ refuses 2 tt) ↔ (writeOf s b ≡ refuses 2 b)
     go true i = (
-      λ e. absurd (omega (arith, ap first (sym e ∙ length-gives (store-is i)))),
-      λ e. absurd (write-number (store-is i) b (ap first e)),
+      λ e. absurd (omega (arith, ap refusalNumber (sym e ∙ length-gives (store-is i)))),
+      λ e. absurd (write-number (store-is i) b (ap refusalNumber e)),
     )
     go false i = (λ e. write-none s i b, λ e. length-none s i)
 
@@ -117,12 +110,12 @@ table-other N n k t = go (good N 0 n t) (eqb (total n t) k)
     go false c = (λ e. omega arith, λ e. omega arith)
 
 module _ (m : List ℕ) {N : ℕ} {t : List ℕ} (z : StoreOf N t) where
-  why : first (readOf m t) ≡ judgeOf m N
+  why : refusalNumber (readOf m t) ≡ judgeOf m N
   why = go (ℕ-discrete (judgeOf m N) 0)
     where
-      go : Dec (judgeOf m N ≡ 0) → first (readOf m t) ≡ judgeOf m N
-      go (yes e) = ap first (read-does m z e) ∙ sym e
-      go (no n) = ap first (read-refuses m z n)
+      go : Dec (judgeOf m N ≡ 0) → refusalNumber (readOf m t) ≡ judgeOf m N
+      go (yes e) = ap refusalNumber (read-does m z e) ∙ sym e
+      go (no n) = ap refusalNumber (read-refuses m z n)
 
   refused : (x : ℕ) → x ≢ 0 → judgeOf m N ≡ x → readOf m t ≡ refuses x t
   refused x n e = read-refuses m z (λ q. n (sym e ∙ q)) ∙ ap (λ (k : ℕ). refuses k t) e
@@ -139,10 +132,10 @@ module _ (m : List ℕ) {N : ℕ} {t : List ℕ} (z : StoreOf N t) where
     where
       go : (b : Bool) → headOk m ≡ b → Dec (capIn m ≡ N) → (readOf m t ≡ refuses 9 t) ↔ (mapCapacityOf m ≡ refuses 9 tt)
       go false h d = (λ e. unnamed m h, λ e. refused 9 (λ q. omega arith) (judge-9 m N h))
-      go true h (yes d) = (λ e. absurd (judged h d .0 (sym why ∙ ap first e)), λ e. absurd (omega (arith, ap first (sym e ∙ named m h))))
+      go true h (yes d) = (λ e. absurd (judged h d .0 (sym why ∙ ap refusalNumber e)), λ e. absurd (omega (arith, ap refusalNumber (sym e ∙ named m h))))
       go true h (no d) = (
-        λ e. absurd (omega (arith, sym (judge-5 m N h d) ∙ sym why ∙ ap first e)),
-        λ e. absurd (omega (arith, ap first (sym e ∙ named m h))),
+        λ e. absurd (omega (arith, sym (judge-5 m N h d) ∙ sym why ∙ ap refusalNumber e)),
+        λ e. absurd (omega (arith, ap refusalNumber (sym e ∙ named m h))),
       )
 
   -- refusal 5 exactly where it names another than the store's
@@ -150,9 +143,9 @@ module _ (m : List ℕ) {N : ℕ} {t : List ℕ} (z : StoreOf N t) where
   read-5 {n} k = go (headOk m) refl (ℕ-discrete (capIn m) N)
     where
       go : (b : Bool) → headOk m ≡ b → Dec (capIn m ≡ N) → (readOf m t ≡ refuses 5 t) ↔ (n ≢ N)
-      go false h d = absurd (omega (arith, ap first (sym k ∙ unnamed m h)))
-      go true h (yes d) = (λ e. absurd (judged h d .1 (sym why ∙ ap first e)), λ q. absurd (q (ap second (sym k ∙ named m h) ∙ d)))
-      go true h (no d) = (λ e q. d (ap second (sym (named m h) ∙ k) ∙ q), λ q. refused 5 (λ x. omega arith) (judge-5 m N h d))
+      go false h d = absurd (omega (arith, ap refusalNumber (sym k ∙ unnamed m h)))
+      go true h (yes d) = (λ e. absurd (judged h d .1 (sym why ∙ ap refusalNumber e)), λ q. absurd (q (ap valueOf (sym k ∙ named m h) ∙ d)))
+      go true h (no d) = (λ e q. d (ap valueOf (sym (named m h) ∙ k) ∙ q), λ q. refused 5 (λ x. omega arith) (judge-5 m N h d))
 
   -- and what is read names the store's
   pub read-names : readOf m t .numbers ≡ 0 ∷ 0 ∷ [] → mapCapacityOf m ≡ gives N tt

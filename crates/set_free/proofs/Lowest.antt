@@ -7,11 +7,11 @@ use mathlib.Core.Path.{_≡_, refl, sym, ap, _∙_, subst}
 use Prim.Native.Nat.{ℕ, suc, _+_, _-_, _/_, _%_, _≤_, _<_}
 use native.Mathlib.Decide.{ℕ-discrete}
 use native.Mathlib.Omega.{arith}
-use lib.ListN.{length, getD, take, drop}
-use Rattle.util.specs.Outcome.{Outcome, Settled, settled}
+use lib.ListN.{length, take, drop}
+use Rattle.util.specs.Outcome.{Settled, settled}
 use Rattle.util.specs.Word.{bit, places, Rising}
 use Rattle.util.proofs.Places.{places-same, places-none, places-in, in-places, places-rising}
-use Rattle.store.specs.Answer.{foundPaper, gives, refuses}
+use Rattle.store.specs.Answer.{foundPaper, gives, refuses, refusalNumber, valueOf}
 use Rattle.store.specs.Build.{layer0}
 use Rattle.store.specs.Layout.{maxCap, cap, isStore, StoreOf, startFrom}
 use Rattle.store.specs.Word.{on, Member, Words64}
@@ -119,9 +119,9 @@ module _ (s : List ℕ) (is : StoreOf (cap s) s) where
   free-found i e = go (places free searchStart (cap s - searchStart)) refl (sym answer-is ∙ e)
     where
       go : (l : List ℕ) → places free searchStart (cap s - searchStart) ≡ l → firstOf l ≡ gives i tt → LowestFree s i
-      go [] q o = absurd (let z : 12 ≡ 0 = ap (λ (x : Outcome (Unit {0})). getD (x .numbers) 0 0) o in omega arith)
+      go [] q o = absurd (let z : 12 ≡ 0 = ap refusalNumber o in omega arith)
       go (x ∷ l) q o =
-          let z : x ≡ i = ap (λ (x : Outcome (Unit {0})). getD (x .numbers) 1 0) o in
+          let z : x ≡ i = ap valueOf o in
           let h = places-head free searchStart (cap s - searchStart) x l q in
           record {
             from = omega (arith, h .0);
@@ -146,7 +146,7 @@ module _ (s : List ℕ) (is : StoreOf (cap s) s) where
           at (yes z) = held j u z
           at (no z) =
               absurd (List·Memᴰ·not-nil (subst (List·Memᴰ j) q (in-places free searchStart (cap s - searchStart) j a (omega arith) z)))
-      go (x ∷ l) q o j a u = absurd (let z : 0 ≡ 12 = ap (λ (x : Outcome (Unit {0})). getD (x .numbers) 0 0) o in omega arith)
+      go (x ∷ l) q o j a u = absurd (let z : 0 ≡ 12 = ap refusalNumber o in omega arith)
 
 -- ---- the search, by the lowest
 

@@ -10,12 +10,13 @@ use native.Mathlib.Decide.{decLt, ℕ-discrete}
 use native.Mathlib.Omega.{arith}
 use borrow.Author.Tests.{le-ltb, lt-ltb, ltb-true}
 use lib.Dec.{ltb}
-use lib.ListN.{length, getD}
+use lib.ListN.{length}
 use Rattle.util.specs.Outcome.{Outcome}
 use Rattle.util.proofs.Same.{both}
 use Rattle.store.specs.Answer.{says, does, refuses}
 use Rattle.store.specs.Layout.{storeLen, cap, isStore, StoreOf}
 use Rattle.store.specs.Word.{on, Member, countBelow, Sound, SoundStore}
+use Rattle.store.proofs.Answers.{says-yes}
 use Rattle.store.proofs.Geometry.{store-is, is-store}
 use Rattle.store.proofs.Members.{member-on, on-member, own}
 use Rattle.store.proofs.Words.{on-lt}
@@ -28,15 +29,11 @@ use Rattle.set_laws.proofs.Moves.{sound-moved, fine-moved, on-moved-sam
 
 -- ---- `contains` says yes exactly for a member
 
-yes-is : (b : Bool) → says b tt ≡ says {X = Unit {0}} true tt → b ≡ true
-yes-is true e = refl
-yes-is false e = absurd (omega (arith, ap (λ (o : Outcome (Unit {0})). getD (o .numbers) 1 0) e))
-
 pub contains-member : (s : List ℕ) (i : ℕ) → isStore s ≡ true → (containsOf s i ≡ says true tt) ↔ Member s i
 unfolding containsOf
 contains-member s i h =
     let asked : containsOf s i ≡ says (isMember s i) tt = rw h in (
-      λ e. is-member s i .0 (yes-is (isMember s i) (sym asked ∙ e)),
+      λ e. is-member s i .0 (says-yes (isMember s i) (sym asked ∙ e)),
       λ m. asked ∙ ap (λ (b : Bool). says b tt) (is-member s i .1 m),
     )
 

@@ -1,5 +1,5 @@
 -- What a caller wants: opened and cleared stores are sound and hold nothing, and on sound stores equality and emptiness speak of members.
-use mathlib.Core.Bool.{Bool, true, false}
+use mathlib.Core.Bool.{Bool, true}
 use mathlib.Core.List.{List}
 use mathlib.Core.Logic.{_↔_}
 use mathlib.Core.Path.{_≡_, refl, sym, ap, _∙_, subst}
@@ -8,8 +8,7 @@ use native.Mathlib.Decide.{ℕ-discrete}
 use native.Mathlib.Omega.{arith}
 use borrow.Author.Tests.{eq-eqb, eqb-true}
 use lib.Dec.{eqb}
-use lib.ListN.{length, getD}
-use Rattle.util.specs.Outcome.{Outcome}
+use lib.ListN.{length}
 use Rattle.util.specs.Word.{bit, same}
 use Rattle.util.proofs.Bits.{bit-of-zero}
 use Rattle.util.proofs.Places.{some-bit}
@@ -18,6 +17,7 @@ use Rattle.store.specs.Answer.{says}
 use Rattle.store.specs.Build.{empty}
 use Rattle.store.specs.Layout.{top, maxCap, cap}
 use Rattle.store.specs.Word.{word, on, anc, Member, countBelow, SoundStore}
+use Rattle.store.proofs.Answers.{says-yes}
 use Rattle.store.proofs.Build.{fine-empty, word-empty}
 use Rattle.store.proofs.Ends.{cap-in}
 use Rattle.store.proofs.Geometry.{is-store}
@@ -44,16 +44,12 @@ opened-by s N h =
     let o = opened N (room .0) (room .1) in
     rw h (o .0, o .1, none-counted (empty N) (o .1) N)
 
-yes-is : (b : Bool) → says b tt ≡ says {X = Unit {0}} true tt → b ≡ true
-yes-is true e = refl
-yes-is false e = absurd (omega (arith, ap (λ (o : Outcome (Unit {0})). getD (o .numbers) 1 0) e))
-
 -- "Equality: all words equal." ON SOUND STORES of one capacity it is equality of members.
 pub equal-members : {N : ℕ} {s t : List ℕ} → SoundStore N s → SoundStore N t → (equalOf s t ≡ says true tt) ↔ ((i : ℕ) → Member s i ↔ Member t i)
 unfolding equalOf
 equal-members {N} {s} {t} f g =
     let asked : equalOf s t ≡ says (same s t) tt = rw (is-store (f .is), is-store (g .is), f .is .names, g .is .names, eq-eqb N N refl) in (
-      λ q i. (let p = same-eq s t (yes-is (same s t) (sym asked ∙ q)) in (λ m. subst (λ (x : List ℕ). Member x i) p m, λ m. subst (λ (x : List ℕ). Member x i) (sym p) m)),
+      λ q i. (let p = same-eq s t (says-yes (same s t) (sym asked ∙ q)) in (λ m. subst (λ (x : List ℕ). Member x i) p m, λ m. subst (λ (x : List ℕ). Member x i) (sym p) m)),
       λ m. asked ∙ ap (λ (b : Bool). says b tt) (subst (λ (x : List ℕ). same s x ≡ true) (fine-same f g m) (same-refl s)),
     )
 
@@ -77,7 +73,7 @@ empty-members {s = s} f = (to, λ none. from none (ℕ-discrete w 0))
     to : isEmptyOf s ≡ says true tt → (i : ℕ) → Member s i → ⊥
     to e i m =
         on-word (cap s) s (top (cap s)) (anc i (top (cap s))) (over-on (cap s) s (own f .sound) (top (cap s)) (omega arith) i (m .held))
-        (ap (word (cap s) s (top (cap s))) (one-word i (m .below)) ∙ eqb-true w 0 (yes-is (eqb w 0) (sym asked ∙ e)))
+        (ap (word (cap s) s (top (cap s))) (one-word i (m .below)) ∙ eqb-true w 0 (says-yes (eqb w 0) (sym asked ∙ e)))
 
     from : ((i : ℕ) → Member s i → ⊥) → Dec (w ≡ 0) → isEmptyOf s ≡ says true tt
     from none (yes q) = asked ∙ ap (λ (b : Bool). says b tt) (eq-eqb w 0 q)

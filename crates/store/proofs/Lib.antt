@@ -6,3 +6,4 @@ pub mod Build
 pub mod Count
 pub mod Ends
 pub mod Parts
+pub mod Answers

@@ -5,6 +5,7 @@ use mathlib.Core.List.{List, [], _∷_}
 use mathlib.Core.Path.{_≡_, refl}
 use Prim.Native.Nat.{ℕ}
 use lib.Dec.{eqb}
+use lib.ListN.{getD}
 use Rattle.util.specs.Outcome.{Outcome, Paper}
 use Rattle.store.specs.declared.Asked.{Asked}
 use Rattle.store.specs.declared.Asked.the-variants.{Is, Refused as AskedRefused}
@@ -27,6 +28,13 @@ does x = gives 0 x
 
 abbrev pub refuses : {X : Type 0} → ℕ → X → Outcome X
 refuses n x = record { numbers = n ∷ []; lent = x }
+
+-- an outcome's refusal, 0 for none, and its value
+abbrev pub refusalNumber : {X : Type 0} → Outcome X → ℕ
+refusalNumber o = getD (o .numbers) 0 0
+
+abbrev pub valueOf : {X : Type 0} → Outcome X → ℕ
+valueOf o = getD (o .numbers) 1 0
 
 -- an answer that is a value or a refusal, read off its numbers
 abbrev readBack : {R : Type 0} → (ℕ → R) → (ℕ → R) → List ℕ → R
