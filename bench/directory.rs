@@ -10,11 +10,19 @@ struct Plain {
     owners: Vec<u8>,
 }
 
+/// The lowest free chunk but 0, which is the header.
+fn rust_free(words: &[usize]) -> u32 {
+    let first = words[0] | 1;
+    if first != !0 {
+        return first.trailing_ones();
+    }
+    let place = 1 + words[1..].iter().position(|&w| w != !0).expect("a free chunk");
+    (64 * place) as u32 + words[place].trailing_ones()
+}
+
 #[inline(never)]
 fn rust_give(plain: &mut Plain, item: u8) -> u32 {
-    let words = plain.set.layer0_as_slice();
-    let place = words.iter().position(|&w| w != !0).expect("a free chunk");
-    let chunk = (64 * place) as u32 + words[place].trailing_ones();
+    let chunk = rust_free(plain.set.layer0_as_slice());
     plain.set.add(chunk);
     plain.owners[chunk as usize] = item;
     chunk

@@ -26,7 +26,7 @@ extern "C" {
 #endif
 
 /* The version: 100 * 100 * major + 100 * minor + patch. FEN_VERSION is the header's, fen_version answers the archive's. */
-#define FEN_VERSION 200
+#define FEN_VERSION 300
 uint64_t fen_version(void);
 
 enum {
@@ -42,7 +42,7 @@ enum {
     FEN_NO_MAP = 9,       /* map: header wrong, or too short */
     FEN_BAD_ENTRY = 10,   /* map: an entry is wrong */
     FEN_BAD_COUNT = 11,   /* map: the count of members is wrong */
-    FEN_NONE_FREE = 12,   /* no id is free */
+    FEN_NONE_FREE = 12,   /* every id from 1 on is a member */
     FEN_BAD_OWNERS = 13,  /* directory: not as many owner bytes as the capacity */
     FEN_NO_ITEM = 14,     /* directory: item 0 or above 200 */
     FEN_NOT_OWNER = 15    /* directory: the chunk is at or past the capacity, or its owner is not the item */
@@ -134,7 +134,7 @@ fen_answer fen_add(uint64_t *store, size_t len, uint32_t id);
 fen_answer fen_remove(uint64_t *store, size_t len, uint32_t id);
 /* Adds all ids, or none if one of them has no room. Refusals 2, 3. */
 fen_answer fen_add_list(uint64_t *store, size_t len, const uint32_t *ids, size_t count);
-/* The lowest id that is not a member. Refusals 2, 12. */
+/* The lowest id from 1 on that is not a member: chunk 0 is the container's header, member or not. A capacity of 1 is full. Refusals 2, 12. */
 fen_answer fen_first_free(const uint64_t *store, size_t len);
 /* Value 1 if all words are equal. Refusals 2, 5. */
 fen_answer fen_equal(const uint64_t *store, size_t len, const uint64_t *other, size_t other_len);
@@ -245,8 +245,8 @@ fen_answer fen_map_read(const uint8_t *map, size_t length, uint64_t *store, size
 fen_answer fen_map_capacity(const uint8_t *map, size_t length);
 
 /* ---- a directory over a store
- * Chunks are the ids of a store, and are given to items, numbered 1 to 200. For each chunk a byte says which item owns it, 0 for none. The
- * store and its `count` bytes are always lent together; `count` is the capacity.
+ * Chunks are the ids of a store. Those from 1 on are given to items, numbered 1 to 200; chunk 0 is the container's header and never given. For
+ * each chunk a byte says which item owns it, 0 for none. The store and its `count` bytes are always lent together; `count` is the capacity.
  *
  * The caller sees to it that between an opening and the last call no other call changes the store or the bytes. Then chunks given less chunks
  * returned since the opening are as many as the members, and each member has one owner; else these figures say nothing. Every call that only
@@ -258,7 +258,7 @@ fen_answer fen_map_capacity(const uint8_t *map, size_t length);
 
 /* Makes `len` words an empty store of capacity n, and all bytes 0. Refusals 1, 2, 13. */
 fen_answer fen_directory_open(uint64_t *store, size_t len, uint8_t *owners, size_t count, uint32_t n);
-/* Gives the lowest free chunk to an item, so that returned chunks are used again. Value: the chunk. Refusals 2, 13, 14, 12. */
+/* Gives the lowest free chunk from 1 on to an item, so that returned chunks are used again. Value: the chunk. Refusals 2, 13, 14, 12. */
 fen_answer fen_directory_give(uint64_t *store, size_t len, uint8_t *owners, size_t count, uint32_t item);
 /* Takes a chunk back from the item that owns it. It is free then, and its byte 0. Refusals 2, 13, 14, 15. */
 fen_answer fen_directory_return(uint64_t *store, size_t len, uint8_t *owners, size_t count, uint32_t item, uint32_t chunk);

@@ -125,6 +125,11 @@ fn cursors() {
     println!("29 next of [5, 262151] {:?}", set.iter().next());
 }
 
+/// What a walk of the ids that are not held hands out first.
+fn lowest_free() {
+    println!("39 next of not of [] {:?}", BitSetNot(BitSet::with_capacity(3)).iter().next());
+}
+
 fn main() {
     std::panic::set_hook(Box::new(|_| ()));
     top_ids();
@@ -139,4 +144,5 @@ fn main() {
     virtual_set(22, BitSetAll);
     cursors();
     shifts();
+    lowest_free();
 }

@@ -1,5 +1,5 @@
-//! The container writer's directory, as an independent reading of document 02, request 1: owner bytes in a memory of their own beside the
-//! stores, and the three calls. Which chunk is given is worked out here; what adding or removing it leaves in the store is the crate's own.
+//! The container writer's directory, as an independent reading of document 02, requests 1 and 2: owner bytes in a memory of their own beside
+//! the stores, and the three calls. Which chunk is given is worked out here; what adding or removing it leaves in the store is the crate's own.
 use crate::figures::Figures;
 use crate::model;
 use crate::stores::{paper, Stores, DUMPED, SLOTS};
@@ -147,7 +147,7 @@ impl Directories {
         Ok(n)
     }
 
-    /// The lowest chunk that layer 0 does not have, whatever its byte and the layers above say.
+    /// The lowest chunk but the header that layer 0 does not have, whatever its byte and the layers above say.
     fn give(&mut self, s: usize, o: usize, item: u32) -> Result<u64, u64> {
         let n = self.judge(s, o, item)?;
         let chunk = model::lowest_free(&self.stores.layer0(s)?, n).ok_or(12u64)?;

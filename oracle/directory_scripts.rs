@@ -237,7 +237,7 @@ pub fn refusal(out: &mut impl Write) -> io::Result<()> {
     for &n in &CHUNKS[..8] {
         for all in [false, true] {
             let mut sketch = around(out, n)?;
-            for _ in 0..if all { n } else { (n - 1).min(130) } {
+            for _ in 0..if all { n } else { n.saturating_sub(2).min(130) } {
                 writeln!(out, "{}", sketch.give(item(&mut r)).0)?;
             }
             faults(out, n, &sketch.owners)?;
@@ -275,7 +275,7 @@ fn faults(out: &mut impl Write, n: u64, owners: &[u8]) -> io::Result<()> {
     for x in [1, 7, 200].iter().chain(NO_ITEMS) {
         by_all(out, "give", &x.to_string())?;
     }
-    for chunk in [0, n / 2, n - 1, n, n + 1, n | 63, (n | 63) + 1, 2 * n - 1, 1 << 31, u64::from(u32::MAX)] {
+    for chunk in [0, 1, n / 2, n - 1, n, n + 1, n | 63, (n | 63) + 1, 2 * n - 1, 1 << 31, u64::from(u32::MAX)] {
         let owner = owners.get(chunk as usize).map_or(1, |&b| u64::from(b));
         for x in [owner % 200 + 1, FENCE, 256 + owner].iter().chain(NO_ITEMS).chain(&[owner]) {
             by_all(out, "return", &format!("{x} {chunk}"))?;
@@ -387,4 +387,23 @@ fn poked(r: &mut Random, sketch: &mut Sketch) -> String {
         8 => sketch.take_back(sketch.owners[chunk as usize].into(), chunk),
         _ => sketch.own_back(chunk),
     }
+}
+
+/// `header`: chunk 0 by hand in and out of directories that are empty, that are full, and that have every other chunk free alone.
+pub fn header(out: &mut impl Write) -> io::Result<()> {
+    let mut r = Random(25);
+    for n in [1, 2, 3, 4, 63, 64, 65, 66, 127, 128, 129, 1_024, 1_088, 1_089, 4_096, 4_097] {
+        let mut sketch = Sketch::open(out, n)?;
+        writeln!(out, "free 0\nadd 0 0\nfree 0\nremove 0 0\nfree 0\nreturn 0 0 1 0")?;
+        for _ in 1..n {
+            writeln!(out, "{}", sketch.give(item(&mut r)).0)?;
+        }
+        shown(out, n, "free 0\ngive 0 0 1\nadd 0 0\nfree 0\ngive 0 0 1\nreturn 0 0 1 0\nremove 0 0")?;
+        for chunk in 1..n {
+            writeln!(out, "{}\nfree 0", sketch.own_back(chunk))?;
+            let (by_hand, line) = (["add", "remove"][r.below(2)], sketch.give(item(&mut r)).0);
+            shown(out, n, &format!("{by_hand} 0 0\nfree 0\n{line}\nfree 0\nopeek 0 0\nreturn 0 0 {} 0", 1 + r.word() % 200))?;
+        }
+    }
+    Ok(())
 }

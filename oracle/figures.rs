@@ -1,5 +1,6 @@
-//! A directory's history, counted from the calls and their answers alone: document 02, request 1. It knows nothing of words and stops where
-//! what was answered, or what then stands in the store and the bytes, is not what the history says.
+//! A directory's history, counted from the calls and their answers alone: document 02, requests 1 and 2. It knows nothing of words and stops
+//! where what was answered, or what then stands in the store and the bytes, is not what the history says.
+use crate::model::FIRST;
 use std::collections::BTreeSet;
 
 /// Since the last opening that was accepted.
@@ -15,7 +16,7 @@ pub struct Figures {
 
 impl Figures {
     pub fn opened(n: u64) -> Figures {
-        Figures { given: 0, returned: 0, owner: vec![0; n as usize], back: BTreeSet::new(), fresh: 0 }
+        Figures { given: 0, returned: 0, owner: vec![0; n as usize], back: BTreeSet::new(), fresh: FIRST as usize }
     }
 
     fn lowest_free(&self) -> Option<usize> {

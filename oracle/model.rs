@@ -57,10 +57,13 @@ pub fn rebuild(words: &mut [u64], n: u64) {
     }
 }
 
-/// The lowest id below n whose bit in layer 0 is not set.
+/// The id that the free search begins with, since chunk 0 is the container's header: document 02, request 2.
+pub const FIRST: u64 = 1;
+
+/// The lowest id from the first on and below n whose bit in layer 0 is not set.
 pub fn lowest_free(ids: &[u64], n: u64) -> Option<u64> {
-    let full = ids.iter().take_while(|&&w| w == u64::MAX).count() as u64;
-    (64 * full..n).find(|&id| ids[(id / 64) as usize] >> (id % 64) & 1 == 0)
+    let full = ids.iter().enumerate().take_while(|&(q, &w)| w | u64::from(q == 0) == u64::MAX).count() as u64;
+    (FIRST.max(64 * full)..n).find(|&id| ids[(id / 64) as usize] >> (id % 64) & 1 == 0)
 }
 
 /// Up to eight bytes as a number, the first the lowest.

@@ -51,13 +51,14 @@ fn main() -> io::Result<()> {
         ["script", "dfull"] => directory_scripts::full(&mut out)?,
         ["script", "drefusal"] => directory_scripts::refusal(&mut out)?,
         ["script", "dunsound"] => directory_scripts::unsound(&mut out)?,
+        ["script", "header"] => directory_scripts::header(&mut out)?,
         ["answer"] => {
             let mut script = Vec::new();
             io::stdin().lock().read_to_end(&mut script)?;
             answers::all(&script, &mut out)?;
         }
         _ => {
-            eprintln!("usage: oracle script average | row | bad | small | history | top | unsound | refusal | walk | cursor | fill | superset | merge | map | damage | mapask | formula | damaged | fwalk | ffill | directory | dfull | drefusal | dunsound; oracle answer <SCRIPT");
+            eprintln!("usage: oracle script average | row | bad | small | history | top | unsound | refusal | walk | cursor | fill | superset | merge | map | damage | mapask | formula | damaged | fwalk | ffill | directory | dfull | drefusal | dunsound | header; oracle answer <SCRIPT");
             std::process::exit(2);
         }
     }

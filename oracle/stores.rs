@@ -346,7 +346,7 @@ impl Stores {
 
     fn free(&mut self, s: usize) -> Result<u64, u64> {
         let set = self.store(s)?;
-        (0..set.n).find(|&id| !set.bits.contains(id as u32)).ok_or(12)
+        (model::FIRST..set.n).find(|&id| !set.bits.contains(id as u32)).ok_or(12)
     }
 
     /// The crate has no such call: the words of its set are rebuilt by the model.

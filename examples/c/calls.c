@@ -94,7 +94,7 @@ static void names(void)
                               FEN_NO_FORMULA, FEN_NO_CURSOR,   FEN_SHORT_BUFFER, FEN_NO_MAP,    FEN_BAD_ENTRY, FEN_BAD_COUNT,
                               FEN_NONE_FREE,  FEN_BAD_OWNERS,  FEN_NO_ITEM,      FEN_NOT_OWNER};
     uint64_t i, j;
-    CHECK(fen_version() == FEN_VERSION && FEN_VERSION == 100 * 100 * 0 + 100 * 2 + 0);
+    CHECK(fen_version() == FEN_VERSION && FEN_VERSION == 100 * 100 * 0 + 100 * 3 + 0);
     CHECK(sizeof named / sizeof *named == 16);
     for (i = 0; i < 16; i++) {
         CHECK(named[i] == i && strcmp(fen_refusal_text(i), "unknown refusal") != 0);
@@ -137,10 +137,13 @@ static void ids(void)
     CHECK(refuses(fen_add(a, L - 1, 1), FEN_NO_STORE));
     CHECK(kept());
     CHECK(says(fen_first_free(a, L), 1));
+    CHECK(says(fen_first_free(four, FOUR), 1));
     CHECK(says(fen_add_list(four, FOUR, most, 3), 0));
     CHECK(says(fen_first_free(four, FOUR), 2));
     CHECK(says(fen_add(four, FOUR, 2), 0));
     CHECK(refuses(fen_first_free(four, FOUR), FEN_NONE_FREE));
+    CHECK(says(fen_remove(four, FOUR, 0), 1) && refuses(fen_first_free(four, FOUR), FEN_NONE_FREE)); /* chunk 0 is the header */
+    CHECK(says(fen_add(four, FOUR, 0), 0));
 }
 
 /* a is {0, 64}, and stays so. */
@@ -396,8 +399,7 @@ static void directory_refusals(void)
     CHECK(refuses(fen_directory_return(dir.store, FOUR, dir.owners, 3, 0, 4), FEN_NO_STORE));
     CHECK(dir_kept());
     CHECK(says(fen_directory_open(DIRECTORY, 4), 0) && dir_is(0, 0, 0, 0, 0));
-    CHECK(says(fen_directory_give(DIRECTORY, 1), 0) && says(fen_directory_give(DIRECTORY, 200), 1));
-    CHECK(says(fen_directory_give(DIRECTORY, 2), 2) && says(fen_directory_give(DIRECTORY, 1), 3));
+    CHECK(says(fen_directory_give(DIRECTORY, 1), 1) && says(fen_directory_give(DIRECTORY, 200), 2) && says(fen_directory_give(DIRECTORY, 2), 3));
     dir_was = dir;
     CHECK(refuses(fen_directory_give(dir.store, FOUR - 1, dir.owners, 3, 0), FEN_NO_STORE));
     CHECK(refuses(fen_directory_give(dir.store, FOUR, dir.owners, 3, 0), FEN_BAD_OWNERS));
@@ -409,10 +411,11 @@ static void directory_refusals(void)
     CHECK(refuses(fen_directory_return(dir.store, FOUR, dir.owners, 3, 0, 4), FEN_BAD_OWNERS));
     CHECK(refuses(fen_directory_return(dir.store, FOUR, dir.owners, 5, 0, 4), FEN_BAD_OWNERS));
     CHECK(refuses(fen_directory_return(DIRECTORY, 0, 4), FEN_NO_ITEM) && refuses(fen_directory_return(DIRECTORY, 201, 4), FEN_NO_ITEM));
-    CHECK(refuses(fen_directory_return(DIRECTORY, 257, 0), FEN_NO_ITEM)); /* 1, as a byte */
+    CHECK(refuses(fen_directory_return(DIRECTORY, 257, 1), FEN_NO_ITEM)); /* 1, as a byte */
+    CHECK(refuses(fen_directory_return(DIRECTORY, 1, 0), FEN_NOT_OWNER)); /* the header is nobody's */
     CHECK(refuses(fen_directory_return(DIRECTORY, 2, 1), FEN_NOT_OWNER) && refuses(fen_directory_return(DIRECTORY, 7, 4), FEN_NOT_OWNER));
     CHECK(refuses(fen_directory_return(DIRECTORY, 1, UINT32_MAX), FEN_NOT_OWNER));
-    CHECK(dir_kept() && dir_is(15, 1, 200, 2, 1));
+    CHECK(dir_kept() && dir_is(14, 0, 1, 200, 2));
 }
 
 /* What is returned is free and given again, and in between the store is read like any other. */
@@ -420,18 +423,21 @@ static void directory_calls(void)
 {
     uint32_t out[5];
     fen_cursor at = {{0}, {0}, 0};
-    CHECK(says(fen_directory_return(DIRECTORY, 2, 2), 0) && dir_is(11, 1, 200, 0, 1));
-    CHECK(refuses(fen_directory_return(DIRECTORY, 2, 2), FEN_NOT_OWNER) && dir_is(11, 1, 200, 0, 1));
-    CHECK(says(fen_directory_return(DIRECTORY, 1, 0), 0) && dir_is(10, 0, 200, 0, 1));
+    CHECK(says(fen_directory_return(DIRECTORY, 200, 2), 0) && dir_is(10, 0, 1, 0, 2));
+    CHECK(refuses(fen_directory_return(DIRECTORY, 200, 2), FEN_NOT_OWNER) && dir_is(10, 0, 1, 0, 2));
     CHECK(says(fen_is_sound(dir.store, FOUR), 1) && steps(fen_start(dir.store, FOUR, &at), FEN_PAUSED, 0));
     CHECK(steps(fen_fill(dir.store, FOUR, &at, 9, out, 5), FEN_END, 2) && out[0] == 1 && out[1] == 3);
-    CHECK(says(fen_directory_give(DIRECTORY, 3), 0) && dir_is(11, 3, 200, 0, 1));
-    CHECK(says(fen_directory_give(DIRECTORY, 4), 2) && dir_is(15, 3, 200, 4, 1));
+    CHECK(says(fen_directory_return(DIRECTORY, 1, 1), 0) && dir_is(8, 0, 0, 0, 2));
+    CHECK(says(fen_directory_give(DIRECTORY, 3), 1) && dir_is(10, 0, 3, 0, 2));
+    CHECK(says(fen_directory_give(DIRECTORY, 4), 2) && dir_is(14, 0, 3, 4, 2));
     CHECK(refuses(fen_directory_give(DIRECTORY, 4), FEN_NONE_FREE));
+    CHECK(says(fen_directory_open(dir.store, FOUR, dir.owners, 1, 1), 0)); /* the header alone */
+    CHECK(refuses(fen_directory_give(dir.store, FOUR, dir.owners, 1, 4), FEN_NONE_FREE));
     CHECK(says(fen_directory_open(DIRECTORY, 4), 0) && dir_is(0, 0, 0, 0, 0));
 }
 
-/* Many calls on 65 chunks: each gives the lowest free one, and those given less those returned are the members, each with its owner. */
+/* Many calls on 65 chunks: each gives the lowest free one but the header; those given less those returned are the members, each with its
+   owner. */
 static void directory_figures(void)
 {
     static uint64_t store[L];
@@ -447,8 +453,8 @@ static void directory_figures(void)
             CHECK(says(fen_directory_return(store, L, owners, N, told[chunk], chunk), 0));
             told[chunk] = 0;
             returned++;
-        } else if (given - returned < N) {
-            for (chunk = 0; told[chunk] != 0;)
+        } else if (given - returned < N - 1) {
+            for (chunk = 1; told[chunk] != 0;)
                 chunk++;
             CHECK(says(fen_directory_give(store, L, owners, N, item), chunk));
             told[chunk] = (uint8_t)item;
@@ -458,7 +464,7 @@ static void directory_figures(void)
         }
         CHECK(memcmp(owners, told, N) == 0);
     }
-    CHECK(returned > 100 && given - returned < N && says(fen_is_sound(store, L), 1));
+    CHECK(returned > 100 && given - returned < N - 1 && says(fen_is_sound(store, L), 1));
     CHECK(steps(fen_start(store, L, &at), FEN_PAUSED, 0) && steps(fen_fill(store, L, &at, 9, out, N + 1), FEN_END, given - returned));
     for (turn = 0; turn < given - returned; turn++)
         CHECK(owners[out[turn]] != 0);

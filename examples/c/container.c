@@ -1,4 +1,5 @@
-/* A container of 100 chunks: items are given chunks and return some, which are given again; then the directory is printed by a walk. */
+/* A container of 100 chunks, of which chunk 0 is the header: items are given the others and return some, which are given again; then the
+   directory is printed by a walk. */
 #include <inttypes.h>
 #include <stdio.h>
 #include <stdlib.h>
@@ -68,8 +69,9 @@ int main(void)
     give(SECOND_PLANE, 4);
     give(NOTES, 1);
 
-    /* The preview's chunk is not the notes' to return. What is returned is given again, the lowest first. */
+    /* The preview's chunk is not the notes' to return, and the header is nobody's. What is returned is given again, the lowest first. */
     take_back(NOTES, 1);
+    take_back(PREVIEW, 0);
     take_back(PREVIEW, 1);
     take_back(PREVIEW, 2);
     take_back(FIRST_PLANE, 5);

@@ -19,8 +19,8 @@ int main()
     held = held && strcmp(fen_refusal_text(fen_add(store, L, N).refusal), fen_refusal_text(FEN_NO_ROOM)) == 0;
     held = held && fen_over_start(&rest, &at).which == FEN_PAUSED && fen_over_next(&rest, &at, 3).value == 1;
     held = held && fen_map_write(store, L, map, sizeof map).value == fen_map_length(store, L).value;
-    held = held && fen_directory_open(store, L, owners, N, N).refusal == FEN_OK && fen_directory_give(store, L, owners, N, 200).value == 0;
-    held = held && owners[0] == 200 && fen_directory_return(store, L, owners, N, 200, 0).refusal == FEN_OK && owners[0] == 0;
+    held = held && fen_directory_open(store, L, owners, N, N).refusal == FEN_OK && fen_directory_give(store, L, owners, N, 200).value == 1;
+    held = held && owners[1] == 200 && fen_directory_return(store, L, owners, N, 200, 1).refusal == FEN_OK && owners[1] == 0;
     if (!held)
         puts("plus.cc: a call answers otherwise than in C");
     return held ? 0 : 1;

@@ -45,12 +45,12 @@ fn run() -> Result<i32, Refusal> {
     preview.read_map(&map)?;
     let read = preview == taken;
     preview.try_bitxor_assign(&(&taken & BitSetAll))?;
-    let empty = preview.is_empty() && View::over(&others)?.first_free() == Ok(0);
+    let empty = preview.is_empty() && View::over(&others)?.first_free() == Ok(1);
 
     let mut directory = Directory::open([0; WORDS], [0; CHUNKS as usize], CHUNKS)?;
-    let given = [directory.give(1)?, directory.give(2)?] == [0, 1];
-    directory.take_back(1, 0)?;
-    let owned = directory.owner(1) == Some(2) && directory.store().try_iter()?.eq([1]);
+    let given = [directory.give(1)?, directory.give(2)?] == [1, 2];
+    directory.take_back(1, 1)?;
+    let owned = directory.owner(2) == Some(2) && directory.store().try_iter()?.eq([2]);
     Ok(first_wrong(&[refused, joined, paused, member, written, read, empty, BitSetAll.contains(3), given, owned]))
 }
 

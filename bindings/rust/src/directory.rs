@@ -14,7 +14,7 @@ use crate::words::Words;
 use crate::BitSetLike;
 
 /// Chunks that are given to items, numbered 1 to 200, and taken back: a store says which are taken, and a byte for each chunk which item
-/// owns it, 0 for none. Its capacity is fixed.
+/// owns it, 0 for none. Chunk 0 is the container's header and is never given. The capacity is fixed.
 ///
 /// While the directory has them, its calls alone change the store and the bytes. So chunks given less chunks taken back since it was opened
 /// are as many as the members, and each member has one owner.
@@ -27,10 +27,10 @@ use crate::BitSetLike;
 ///
 /// let (mut words, mut owners) = ([0; words_for(1_000)], [0; 1_000]);
 /// let mut directory = Directory::open(&mut words, &mut owners, 1_000)?;
-/// assert_eq!((directory.give(PREVIEW), directory.give(NOTES)), (Ok(0), Ok(1)));
-/// assert_eq!(directory.take_back(NOTES, 0), Err(Refusal::NotOwner));
-/// assert_eq!(directory.take_back(PREVIEW, 0), Ok(()));
-/// assert_eq!(directory.give(NOTES), Ok(0));
+/// assert_eq!((directory.give(PREVIEW), directory.give(NOTES)), (Ok(1), Ok(2)));
+/// assert_eq!(directory.take_back(NOTES, 1), Err(Refusal::NotOwner));
+/// assert_eq!(directory.take_back(PREVIEW, 1), Ok(()));
+/// assert_eq!(directory.give(NOTES), Ok(1));
 /// # Ok::<(), Refusal>(())
 /// ```
 #[derive(Clone, PartialEq, Eq)]
@@ -56,13 +56,13 @@ impl<W: Words + AsMut<[u64]>, B: AsRef<[u8]> + AsMut<[u8]>> Directory<W, B> {
         Ok(Directory { words, owners })
     }
 
-    /// Gives the lowest free chunk to an item, and says which. Refusals 14, 12.
+    /// Gives the lowest free chunk from 1 on to an item, and says which. Refusals 14, 12.
     ///
     /// ```
     /// use fendruscla::{Directory, Refusal};
     ///
-    /// let mut directory = Directory::new(2)?;
-    /// assert_eq!((directory.give(200), directory.give(3)), (Ok(0), Ok(1)));
+    /// let mut directory = Directory::new(3)?;
+    /// assert_eq!((directory.give(200), directory.give(3)), (Ok(1), Ok(2)));
     /// assert_eq!(directory.give(201), Err(Refusal::NoItem));
     /// assert_eq!(directory.give(200), Err(Refusal::NoneFree));
     /// # Ok::<(), Refusal>(())
@@ -102,9 +102,9 @@ impl<W: Words, B: AsRef<[u8]>> Directory<W, B> {
     /// let mut directory = Directory::new(64)?;
     /// directory.give(3)?;
     /// let (words, owners) = directory.into_parts();
-    /// assert_eq!(Directory::over(&words[..], &owners[..])?.owner(0), Some(3));
+    /// assert_eq!(Directory::over(&words[..], &owners[..])?.owner(1), Some(3));
     /// assert_eq!(Directory::over(&words[..], &owners[1..]), Err(Refusal::BadOwners));
-    /// assert_eq!(Directory::over(words, owners)?.give(4), Ok(1));
+    /// assert_eq!(Directory::over(words, owners)?.give(4), Ok(2));
     /// # Ok::<(), Refusal>(())
     /// ```
     pub fn over(words: W, owners: B) -> Result<Directory<W, B>, Refusal> {
@@ -122,7 +122,7 @@ impl<W: Words, B: AsRef<[u8]>> Directory<W, B> {
     ///
     /// let mut directory = Directory::new(1_000)?;
     /// directory.give(3)?;
-    /// assert_eq!((directory.owner(0), directory.owner(1), directory.owner(1_000)), (Some(3), None, None));
+    /// assert_eq!((directory.owner(1), directory.owner(2), directory.owner(1_000)), (Some(3), None, None));
     /// # Ok::<(), fendruscla::Refusal>(())
     /// ```
     pub fn owner(&self, chunk: Index) -> Option<u8> {
@@ -137,7 +137,7 @@ impl<W: Words, B: AsRef<[u8]>> Directory<W, B> {
     /// let mut directory = Directory::new(4)?;
     /// directory.give(3)?;
     /// directory.give(200)?;
-    /// assert_eq!(directory.owners(), [3, 200, 0, 0]);
+    /// assert_eq!(directory.owners(), [0, 3, 200, 0]);
     /// # Ok::<(), fendruscla::Refusal>(())
     /// ```
     pub fn owners(&self) -> &[u8] {
@@ -154,8 +154,8 @@ impl<W: Words, B: AsRef<[u8]>> Directory<W, B> {
     ///     directory.give(item)?;
     /// }
     /// let taken = directory.store();
-    /// assert!(taken.iter().filter(|&chunk| directory.owner(chunk) == Some(1)).eq([0, 2]));
-    /// assert_eq!((!taken).iter().next(), Some(3));
+    /// assert!(taken.iter().filter(|&chunk| directory.owner(chunk) == Some(1)).eq([1, 3]));
+    /// assert_eq!(taken.first_free(), Ok(4));
     /// # Ok::<(), fendruscla::Refusal>(())
     /// ```
     pub fn store(&self) -> View<'_> {
@@ -169,7 +169,7 @@ impl<W: Words, B: AsRef<[u8]>> Directory<W, B> {
     ///
     /// let mut directory = Directory::open([0; words_for(4)], [0; 4], 4)?;
     /// directory.give(3)?;
-    /// assert_eq!(directory.into_parts(), ([4, 1, 1, 1, 1], [3, 0, 0, 0]));
+    /// assert_eq!(directory.into_parts(), ([4, 1, 1, 1, 2], [0, 3, 0, 0]));
     /// # Ok::<(), fendruscla::Refusal>(())
     /// ```
     pub fn into_parts(self) -> (W, B) {

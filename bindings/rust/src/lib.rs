@@ -13,7 +13,7 @@
 //! assert!(taken.contains(5));
 //! assert_eq!((&taken & &raw).iter().collect::<Vec<_>>(), [5, 70]);
 //! assert_eq!((&taken ^ &raw).iter().collect::<Vec<_>>(), [1, 900]);
-//! assert_eq!(taken.first_free(), Ok(0));
+//! assert_eq!(taken.first_free(), Ok(2));
 //! ```
 //!
 //! Over words that are lent, with nothing allocated and refusals as errors:
@@ -75,7 +75,7 @@ pub use words::{words_for, Words, MAX_CAPACITY};
 /// The archive's version: 100 * 100 * major + 100 * minor + patch.
 ///
 /// ```
-/// assert_eq!(fendruscla::version(), 200);
+/// assert_eq!(fendruscla::version(), 300);
 /// ```
 pub fn version() -> u64 {
     ffi::version()

@@ -304,12 +304,13 @@ impl<W: Words> Set<W> {
         }
     }
 
-    /// The lowest id that is not a member. Refusal 12.
+    /// The lowest id from 1 on that is not a member, since chunk 0 is the container's header, member or not. Refusal 12.
     ///
     /// ```
     /// use fendruscla::{BitSet, Refusal, Set};
     ///
     /// let mut four = Set::open([0; 5], 4)?;
+    /// assert_eq!(four.first_free(), Ok(1));
     /// four.add_list(&[0, 1, 3])?;
     /// assert_eq!(four.first_free(), Ok(2));
     /// four.add(2);

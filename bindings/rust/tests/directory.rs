@@ -7,9 +7,9 @@ use std::collections::BTreeMap;
 use common::{members, set_of, Dice, CAPACITIES};
 use fendruscla::{words_for, BitSet, BitSetLike, Cursor, Directory, Refusal, Set, Step, View};
 
-/// The lowest chunk that the model does not have.
+/// The lowest chunk but the header that the model does not have.
 fn lowest_free(model: &BTreeMap<u32, u8>, n: u32) -> Option<u32> {
-    (0..n).find(|chunk| !model.contains_key(chunk))
+    (1..n).find(|chunk| !model.contains_key(chunk))
 }
 
 #[test]
@@ -40,7 +40,7 @@ fn a_directory_is_what_the_model_is() {
             }
             assert_eq!(given - returned, model.len());
         }
-        assert!(returned > 0);
+        assert_eq!(returned > 0, n > 1);
         assert!(directory.store().iter().eq(model.keys().copied()));
         assert!((0..n + 3).all(|chunk| directory.owner(chunk) == model.get(&chunk).copied()));
         assert!(directory.store().is_sound());
@@ -59,7 +59,7 @@ fn an_owned_directory_is_an_opened_one() {
 #[test]
 fn what_is_taken_back_is_given_again() {
     let mut directory = Directory::open([0; words_for(70)], [0; 70], 70).unwrap();
-    assert!((0..70).all(|chunk| directory.give(1) == Ok(chunk)));
+    assert!((1..70).all(|chunk| directory.give(1) == Ok(chunk)));
     for chunk in [64, 5] {
         assert_eq!(directory.take_back(1, chunk), Ok(()));
         assert_eq!(directory.owner(chunk), None);
@@ -74,32 +74,32 @@ fn the_store_is_walked_and_put_into_formulas() {
     for item in [1, 2, 2, 3] {
         directory.give(item).unwrap();
     }
-    directory.take_back(2, 1).unwrap();
+    directory.take_back(2, 2).unwrap();
     let taken = directory.store();
-    assert_eq!(members(taken), [0, 2, 3]);
+    assert_eq!(members(taken), [1, 3, 4]);
     let even = set_of(1_000, &(0..1_000).step_by(2).collect());
-    assert_eq!(members(taken & &even), [0, 2]);
+    assert_eq!(members(taken & &even), [4]);
     let mut cursor = Cursor::start(&taken).unwrap();
     assert_eq!(cursor.next(&taken, 2), Ok(Step::Paused));
-    assert_eq!(cursor.next(&taken, 1), Ok(Step::Member(0)));
+    assert_eq!(cursor.next(&taken, 1), Ok(Step::Member(1)));
     assert_eq!(BitSet::from_map(&taken.to_map()).unwrap().capacity(), 1_000);
-    assert_eq!(format!("{directory:?}"), "{0: 1, 2: 2, 3: 3}");
+    assert_eq!(format!("{directory:?}"), "{1: 1, 3: 2, 4: 3}");
 }
 
 #[test]
 fn a_lent_directory_goes_from_hand_to_hand() {
     let (mut words, mut owners) = ([7; words_for(65)], [7; 65]);
     let mut directory = Directory::open(&mut words[..], &mut owners[..], 65).unwrap();
-    assert_eq!((directory.give(9), directory.give(10)), (Ok(0), Ok(1)));
+    assert_eq!((directory.give(9), directory.give(10)), (Ok(1), Ok(2)));
     let (lent, bytes) = directory.into_parts();
     assert_eq!((lent.len(), bytes.len()), (words_for(65), 65));
 
     let read = Directory::over(&words, &owners).unwrap();
-    assert_eq!((read.owner(0), read.owner(1), members(read.store())), (Some(9), Some(10), vec![0, 1]));
+    assert_eq!((read.owner(1), read.owner(2), members(read.store())), (Some(9), Some(10), vec![1, 2]));
     let mut again = Directory::over(&mut words, &mut owners).unwrap();
-    assert_eq!(again.take_back(9, 0), Ok(()));
-    assert_eq!(owners[..3], [0, 10, 0]);
-    assert_eq!(members(View::over(&words).unwrap()), [1]);
+    assert_eq!(again.take_back(9, 1), Ok(()));
+    assert_eq!(owners[..3], [0, 0, 10]);
+    assert_eq!(members(View::over(&words).unwrap()), [2]);
 }
 
 #[test]

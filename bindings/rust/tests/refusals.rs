@@ -155,10 +155,15 @@ fn refusals_8_to_11_of_a_map() {
 #[test]
 fn refusal_12_of_a_full_set() {
     let mut set = Set::open([0; 5], 4).unwrap();
+    assert_eq!(set.first_free(), Ok(1));
     assert_eq!(set.add_list(&[0, 1, 3]), Ok(()));
     assert_eq!(set.first_free(), Ok(2));
     set.add(2);
     assert_eq!(set.first_free(), Err(Refusal::NoneFree));
+    // chunk 0 is the header, member or not
+    set.remove(0);
+    assert_eq!(set.first_free(), Err(Refusal::NoneFree));
+    assert_eq!(Set::open([0; 5], 1).unwrap().first_free(), Err(Refusal::NoneFree));
 }
 
 #[test]
@@ -177,15 +182,16 @@ fn refusals_of_a_directory_in_their_order() {
     assert_eq!(Directory::over(&fixed().into_words(), &[0; 64]).unwrap_err().number(), 13);
     assert_eq!([0, 16_777_217, u32::MAX].map(|n| Directory::new(n).unwrap_err().number()), [1; 3]);
 
-    let mut directory = Directory::new(4).unwrap();
-    assert_eq!([1, 200, 2, 1].map(|item| directory.give(item)), [0, 1, 2, 3].map(Ok));
+    let mut directory = Directory::new(5).unwrap();
+    assert_eq!([1, 200, 2, 1].map(|item| directory.give(item)), [1, 2, 3, 4].map(Ok));
     let full = directory.clone();
     assert_eq!([0, 201, 257, u32::MAX].map(|item| directory.give(item).unwrap_err().number()), [14; 4]);
     assert_eq!([1, 200].map(|item| directory.give(item).unwrap_err().number()), [12; 2]);
-    assert_eq!([0, 201, 257].map(|item| directory.take_back(item, 4).unwrap_err().number()), [14; 3]);
+    assert_eq!([0, 201, 257].map(|item| directory.take_back(item, 5).unwrap_err().number()), [14; 3]);
     assert_eq!(
-        [(2, 1), (1, 4), (1, u32::MAX)].map(|(item, chunk)| directory.take_back(item, chunk).unwrap_err().number()),
-        [15; 3]
+        [(2, 1), (1, 0), (1, 5), (1, u32::MAX)].map(|(item, chunk)| directory.take_back(item, chunk).unwrap_err().number()),
+        [15; 4]
     );
     assert_eq!(directory, full);
+    assert_eq!(Directory::new(1).unwrap().give(1).unwrap_err().number(), 12);
 }

@@ -23,7 +23,7 @@ fn a_set_is_what_the_model_is() {
         assert!(set.is_sound());
         assert_eq!(set.is_empty(), model.is_empty());
         assert!((&set).iter().eq(model.iter().copied()));
-        assert_eq!(set.first_free().ok(), (0..=n).find(|id| !model.contains(id)));
+        assert_eq!(set.first_free().ok(), (1..=n).find(|id| !model.contains(id)));
         assert_eq!(set.capacity(), n);
     }
 }

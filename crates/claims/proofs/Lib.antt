@@ -2,6 +2,7 @@ pub mod Histories
 pub mod Closed
 pub mod OneStore
 pub mod Directories
+pub mod Header
 pub mod Walks
 pub mod Maps
 pub mod Witnesses

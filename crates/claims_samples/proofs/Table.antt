@@ -1,4 +1,4 @@
--- THE SAMPLES P1 to P12 of document 01, computed, and each refusal of a map.
+-- THE SAMPLES P1 to P12, computed, and each refusal of a map.
 use mathlib.Core.List.{List, [], _∷_, _++_, zipWith}
 use mathlib.Core.Path.{_≡_, refl, sym, ap, ap₂, _∙_, subst}
 use Prim.Native.Nat.{ℕ, _≤_}
@@ -124,7 +124,7 @@ holds10 = subst (λ (s : List ℕ). Holds (p10 s)) (sym (written-out .0)) large1
 
 holds11 : Holds p11
 unfolding p11 firstFreeOf freeFrom places bit change top isCap isStore room span layerEnd word on anc put moveOf movedBy allBelow addAll addListOf edit edits addLayers openRefusal openOf
-holds11 = (refl, (refl, tt))
+holds11 = (refl, (refl, (refl, tt)))
 
 holds12 : Holds (p12 s65)
 unfolding p12 writeOf mapOf keptFrom countAll used entries le count onesIn bit change top isCap isStore room span layerEnd word on anc put moveOf movedBy allBelow addAll addListOf edit edits addLayers openRefusal openOf

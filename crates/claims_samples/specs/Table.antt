@@ -1,4 +1,5 @@
--- The samples P1 to P12 of document 01, as one table: what the calls' definitions give, and the numbers that the document says.
+-- The samples P1 to P12 of document 01, and what document 02 adds to them, as one table: what the calls' definitions give, and the numbers
+-- that the document says.
 use mathlib.Core.Bool.{cond}
 use mathlib.Core.List.{List, [], _∷_, _++_}
 use mathlib.Core.Path.{_≡_}
@@ -139,11 +140,12 @@ p10 s =
     ∷ record { gives = step (nextIn s (a .cursor) 1); says = 0 ∷ 1 ∷ 5 ∷ 1 ∷ [] }
     ∷ []
 
--- P11, "N=4, {0,1,3}: free 2. With {0,1,2,3}: refusal 12."
+-- P11, "N=4, {0,1,3}: free 2. With {0,1,2,3}: refusal 12." Document 02, request 2: "The P11 answers stand; an empty store of N=4 now gives 1."
 unfoldable pub p11 : List Row
 p11 =
     record { gives = firstFreeOf (setOf 4 (0 ∷ 1 ∷ 3 ∷ [])) .numbers; says = 0 ∷ 2 ∷ [] }
     ∷ record { gives = firstFreeOf (setOf 4 (0 ∷ 1 ∷ 2 ∷ 3 ∷ [])) .numbers; says = 12 ∷ [] }
+    ∷ record { gives = firstFreeOf (new 4) .numbers; says = 0 ∷ 1 ∷ [] }
     ∷ []
 
 -- P12, "N=65, {0,64}: map of 40 bytes, `41 00 00 00 02 00 00 00 02 00 00 00 10 00 00 00`, then `00 00 00 00 01` and seven zeros, then

@@ -8,7 +8,7 @@ use Prim.Native.Nat.{ℕ, suc, _+_, _≤_}
 use lib.Dec.{eqb}
 use lib.ListN.{length}
 use Rattle.util.specs.Outcome.{Outcome}
-use Rattle.store.specs.Answer.{refusalNumber, valueOf}
+use Rattle.store.specs.Answer.{refuses, refusalNumber, valueOf}
 use Rattle.store.specs.Layout.{cap}
 use Rattle.store.specs.Word.{Member, countBelow, SoundStore}
 use Rattle.set_free.specs.Calls.{searchStart}
@@ -95,6 +95,12 @@ pub record InOrder (h : History) : Type 0 where
   pub told : (i : ℕ) → ownerAt (h .now) i ≡ h .figures .owner i
   -- no chunk below the search's first is ever given
   pub from : (i : ℕ) → Member (h .now .store) i → searchStart ≤ i
+
+-- "chunk 0 always belongs to the container header": no item has it, and none can return it
+pub record HeaderKept (d : Directory) : Type 0 where
+  pub free : Member (d .store) 0 → ⊥
+  pub byte : ownerAt d 0 ≡ 0
+  pub stays : (x : ℕ) → isItem x ≡ true → takeBackOf d x 0 ≡ refuses 15 d
 
 -- ---- "Give takes the lowest free chunk, so returned chunks are used again"
 

@@ -1,2 +1,3 @@
 pub mod Words
 pub mod Lowest
+pub mod Header

@@ -44,9 +44,12 @@ pub lowest-0 : (s : List ℕ) → isStore s ≡ false → 0 ≡ lowestOf s
 unfolding lowestOf
 lowest-0 s h = rw h
 
-pub free-2 : (s : List ℕ) → isStore s ≡ false → Settled foundPaper (firstFreeOf s) (Refused 2) tt
+pub no-search : (s : List ℕ) → isStore s ≡ false → firstFreeOf s ≡ refuses 2 tt
 unfolding firstFreeOf
-free-2 s h = settled (rw h)
+no-search s h = rw h
+
+pub free-2 : (s : List ℕ) → isStore s ≡ false → Settled foundPaper (firstFreeOf s) (Refused 2) tt
+free-2 s h = settled (no-search s h)
 
 -- ---- what the answer says of the members
 
@@ -81,7 +84,7 @@ module _ (s : List ℕ) (is : StoreOf (cap s) s) where
   held : (j : ℕ) → j < cap s → free j ≡ 0 → Member s j
   held j l e = record { below = l; held = omega (arith, e, on-lt (cap s) s 0 j) }
 
-  answer-is : firstFreeOf s ≡ firstOf (freeFrom (cap s) s searchStart)
+  pub answer-is : firstFreeOf s ≡ firstOf (freeFrom (cap s) s searchStart)
   unfolding firstFreeOf
   answer-is = ap (λ (b : Bool). cond b (firstOf (freeFrom (cap s) s searchStart)) (refuses 2 tt)) (is-store is)
 

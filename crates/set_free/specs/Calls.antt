@@ -1,5 +1,5 @@
 -- The free search, for all inputs. Document 01: "Free search: the lowest id below N that is not a member, or refusal 12 exactly if there
--- is none."
+-- is none." Document 02, request 2, in its place: "The search is now over ids 1 to N-1 .. 12 exactly if ids 1 to N-1 are all members."
 use mathlib.Core.Bool.{cond}
 use mathlib.Core.List.{List, [], _∷_}
 use Prim.Native.Nat.{ℕ, _-_, _≤_, _<_}
@@ -9,9 +9,9 @@ use Rattle.store.specs.Answer.{gives, refuses}
 use Rattle.store.specs.Layout.{cap, isStore}
 use Rattle.store.specs.Word.{on, Member}
 
--- the id that the search begins with
+-- the id that the search begins with: "chunk 0 always belongs to the container header"
 abbrev pub searchStart : ℕ
-searchStart = 0
+searchStart = 1
 
 -- the ids from `first` on and below N that are not members, ascending: by layer 0 alone, so on unsound stores too
 unfoldable pub freeFrom : ℕ → List ℕ → ℕ → List ℕ
@@ -33,7 +33,7 @@ firstOf (i ∷ l) = gives i tt
 unfoldable pub firstFreeOf : List ℕ → Outcome (Unit {0})
 firstFreeOf s = cond (isStore s) (firstOf (freeFrom (cap s) s searchStart)) (refuses 2 tt)
 
--- what an answer i says of the members: "the lowest id below N that is not a member"
+-- what an answer i says of the members: the lowest id from the first on and below N that is not a member
 pub record LowestFree (s : List ℕ) (i : ℕ) : Type 0 where
   pub from : searchStart ≤ i
   pub below : i < cap s

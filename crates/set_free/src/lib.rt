@@ -1,4 +1,4 @@
-// The free search: the lowest id that is not a member, by layer 0 alone.
+// The free search: the lowest id from 1 on that is not a member, by layer 0 alone.
 ghost use mathlib.Core.Path.{_≡_};
 ghost use Prim.Native.Nat.{_+_, _^_, _≤_, _<_, min};
 ghost use lib.ListN.{length};
@@ -15,8 +15,8 @@ const FULL: u64 = 18446744073709551615;
 // How many words behind the first are looked at one by one, before eight are looked at a turn.
 const NEAR: usize = 16;
 
-// The id that the search begins with.
-const SEARCH_START: usize = 0;
+// The id that the search begins with: chunk 0 is the container's header.
+const SEARCH_START: usize = 1;
 
 // The bits that four words share: all of them if each word is full.
 fn four(layer: &[u64], i: usize) -> u64
@@ -96,7 +96,7 @@ fn search(layer: &[u64], n: usize, first: usize) -> u32
     within(64 * p + u64::trailing_zeros(w) as usize, n)
 }
 
-// The lowest id below the capacity that is not a member, or the capacity where there is none; 0 of a slice that is no store.
+// The lowest id from 1 on and below the capacity that is not a member, or the capacity where there is none; 0 of a slice that is no store.
 pub fn lowest_free(store: &[u64]) -> u32
     ensures { λ r. ⌜ r ≡ lowestOf (now (store .entry)) ⌝ }
 {
@@ -108,7 +108,7 @@ pub fn lowest_free(store: &[u64]) -> u32
     search(&store[a..], n, SEARCH_START)
 }
 
-// The lowest id below the capacity that is not a member.
+// The lowest id from 1 on and below the capacity that is not a member.
 pub fn first_free(store: &[u64]) -> Found
     ensures { λ r. ⌜ Settled foundPaper (firstFreeOf (now (store .entry))) r tt ⌝ }
 {
