@@ -5,7 +5,7 @@ use native.Mathlib.Decide.{decLt}
 use native.Mathlib.Omega.{arith}
 use lib.Pow.{pow-pos, pow-mono}
 use Rattle.util.specs.Word.{bit}
-use Rattle.util.proofs.Bits.{bit-flip-in, bit-high, bit-of-zero}
+use Rattle.util.proofs.Bits.{ones-on, ones-off}
 use Rattle.store.specs.Layout.{room}
 use Rattle.formula_codes.specs.Tree.{existing}
 
@@ -22,13 +22,11 @@ module _ (p i : ℕ) where
 
   pub cut-on : (b : ℕ) → b < 64 → i * 64 + b < p → bit (existing p i) b ≡ 1
   unfolding existing
-  cut-on b h g =
-      let z : 2 ^ size - 1 ≡ (2 ^ size - 1) - 0 = omega arith in
-      ap (λ (x : ℕ). bit x b) z ∙ bit-flip-in size 0 b (pow-pos size) (omega arith) ∙ ap (λ (x : ℕ). 1 - x) (bit-of-zero b)
+  cut-on b h g = ones-on size b (omega arith)
 
   pub cut-off : (b : ℕ) → p ≤ i * 64 + b → bit (existing p i) b ≡ 0
   unfolding existing
-  cut-off b h = bit-high size (2 ^ size - 1) b (omega (arith, pow-pos size)) (omega arith)
+  cut-off b h = ones-off size b (omega arith)
 
   cut-none : p ≤ i * 64 → existing p i ≡ 0
   unfolding existing

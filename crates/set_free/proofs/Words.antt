@@ -4,14 +4,13 @@ use mathlib.Core.Logic.{_≢_}
 use mathlib.Core.Path.{_≡_, sym, ap, ap₂, _∙_, subst}
 use Prim.Native.Nat.{ℕ, _+_, _-_, _*_, _/_, _%_, _^_, _≤_, _<_, min}
 use native.Mathlib.Decide.{decLt, ℕ-discrete}
-use native.Mathlib.Nat.{div-one}
 use native.Mathlib.Omega.{arith}
 use lib.Bits.{bitAnd, and-le-l, and-le-r}
 use lib.Count.{trailingZeros}
 use lib.ListN.{length, getD, List·getD-eq-default}
-use lib.Pow.{shr-shr, shr-le}
+use lib.Pow.{pow-mono}
 use Rattle.util.specs.Word.{bit, flip, places}
-use Rattle.util.proofs.Bits.{bit-flip, bit-high, bit-of-zero}
+use Rattle.util.proofs.Bits.{shl-one, bit-lt, bit-of-zero, bit-and, bit-flip, ones-on, ones-off}
 use Rattle.util.proofs.Places.{Lowest, lowest, places-first, places-none}
 use Rattle.store.specs.Word.{Words64}
 use Rattle.set_free.specs.Calls.{firstOr}
@@ -85,53 +84,66 @@ module _ {ws : List ℕ} {q r : ℕ} (h : Skipped ws q r) where
 
 -- ---- the ids of a word
 
--- the complement of word q, shifted by t: bit j of it tells whether id 64 q + t + j is free
-bit-shift : (w t j : ℕ) → bit (w / 2 ^ t) j ≡ bit w (t + j)
-unfolding bit
-bit-shift w t j = ap (λ (x : ℕ). x % 2) (shr-shr w t j)
+-- of word q, the ids from place t on that are free: bit j of it tells whether id 64 q + j is, and no bit below t is set
+record Left (ws : List ℕ) (q t left : ℕ) : Type 0 where
+  small : left ≤ full
+  on : (j : ℕ) → t ≤ j → j < 64 → freeAt ws (64 * q + j) ≡ bit left j
+  off : (j : ℕ) → j < t → bit left j ≡ 0
 
-module _ (ws : List ℕ) (q t : ℕ) (h : t < 64) (small : getD ws q 0 ≤ full) where
-  abbrev left : ℕ
-  left = flip (getD ws q 0) / 2 ^ t
-
-  left-small : left ≤ full
-  left-small = omega (arith, shr-le (flip (getD ws q 0)) t)
-
-  free-bit : (j : ℕ) → t + j < 64 → freeAt ws (64 * q + t + j) ≡ bit left j
+module _ (ws : List ℕ) (q : ℕ) (small : getD ws q 0 ≤ full) where
+  free-bit : (j : ℕ) → j < 64 → freeAt ws (64 * q + j) ≡ bit (flip (getD ws q 0)) j
   free-bit j l =
-      let d : (64 * q + t + j) / 64 ≡ q = omega arith in
-      let m : (64 * q + t + j) % 64 ≡ t + j = omega arith in
-      ap₂ (λ (x y : ℕ). 1 - bit (getD ws x 0) y) d m
-      ∙ sym (bit-shift (flip (getD ws q 0)) t j ∙ bit-flip (getD ws q 0) (t + j) (omega arith) l)
+      let d : (64 * q + j) / 64 ≡ q = omega arith in
+      let m : (64 * q + j) % 64 ≡ j = omega arith in
+      ap₂ (λ (x y : ℕ). 1 - bit (getD ws x 0) y) d m ∙ sym (bit-flip (getD ws q 0) j (omega arith) l)
 
+  left-all : Left ws q 0 (flip (getD ws q 0))
+  left-all = record { small = omega arith; on = λ j a l. free-bit j l; off = λ j l. absurd (omega arith) }
+
+  -- those before place t taken out
+  left-from : (t : ℕ) → t < 64 → Left ws q t (bitAnd (flip (getD ws q 0)) (flip (2 ^ t - 1)))
+  left-from t h = record { small = omega (arith, and-le-l w (flip (2 ^ t - 1))); on = λ j a l. free-bit j l ∙ kept j a l; off = gone }
+    where
+      w : ℕ
+      w = flip (getD ws q 0)
+
+      before : (j : ℕ) → j < 64 → bit (flip (2 ^ t - 1)) j ≡ 1 - bit (2 ^ t - 1) j
+      before j l = bit-flip (2 ^ t - 1) j (omega (arith, pow-mono {i = t} {j = 64} (omega arith))) l
+
+      kept : (j : ℕ) → t ≤ j → j < 64 → bit w j ≡ bit (bitAnd w (flip (2 ^ t - 1))) j
+      kept j a l = omega (arith, bit-and w (flip (2 ^ t - 1)) j, before j l, ones-off t j a, bit-lt w j)
+
+      gone : (j : ℕ) → j < t → bit (bitAnd w (flip (2 ^ t - 1))) j ≡ 0
+      gone j l = omega (arith, bit-and w (flip (2 ^ t - 1)) j, before j (omega arith), ones-on t j l)
+
+module _ {ws : List ℕ} {q t left : ℕ} (h : Left ws q t left) where
   -- none is free in a word of which nothing is left
   none-left : left ≡ 0 → (i : ℕ) → 64 * q + t ≤ i → i < 64 * q + 64 → freeAt ws i ≡ 0
   none-left e i a b =
-      let z : 64 * q + t + (i - (64 * q + t)) ≡ i = omega arith in
-      ap (freeAt ws) (sym z) ∙ free-bit (i - (64 * q + t)) (omega arith) ∙ ap (λ (x : ℕ). bit x (i - (64 * q + t))) e ∙ bit-of-zero (i - (64 * q + t))
+      let z : 64 * q + (i - 64 * q) ≡ i = omega arith in
+      ap (freeAt ws) (sym z) ∙ h .on (i - 64 * q) (omega arith) (omega arith) ∙ ap (λ (x : ℕ). bit x (i - 64 * q)) e ∙ bit-of-zero (i - 64 * q)
 
   -- the first free id is at the lowest bit of what is left
   record First (b : ℕ) : Type 0 where
-    inside : t + b < 64
-    free : freeAt ws (64 * q + t + b) ≢ 0
-    taken : (i : ℕ) → 64 * q + t ≤ i → i < 64 * q + t + b → freeAt ws i ≡ 0
+    from : t ≤ b
+    free : freeAt ws (64 * q + b) ≢ 0
+    taken : (i : ℕ) → 64 * q + t ≤ i → i < 64 * q + b → freeAt ws i ≡ 0
 
   first-left : left ≢ 0 → First (trailingZeros 64 left)
   first-left n =
-      let z = lowest left (omega (arith, left-small)) (omega arith) in
-      go (trailingZeros 64 left) z (decLt (t + trailingZeros 64 left) 64)
+      let z = lowest left (omega (arith, h .small)) (omega arith) in
+      go (trailingZeros 64 left) z (decLt (trailingZeros 64 left) t)
     where
-      go : (b : ℕ) → Lowest left b → Dec (t + b < 64) → First b
-      go b z (yes l) =
-          record {
-            inside = l;
-            free = λ e. omega (arith, sym (free-bit b l) ∙ e, z .on);
-            taken = λ i a u.
-                let y : 64 * q + t + (i - (64 * q + t)) ≡ i = omega arith in
-                ap (freeAt ws) (sym y) ∙ free-bit (i - (64 * q + t)) (omega arith) ∙ z .first (i - (64 * q + t)) (omega arith);
-          }
+      go : (b : ℕ) → Lowest left b → Dec (b < t) → First b
+      go b z (yes l) = absurd (omega (arith, z .on, h .off b l))
       go b z (no l) =
-          absurd (omega (arith, sym (z .on) ∙ bit-shift (flip (getD ws q 0)) t b ∙ bit-high 64 (flip (getD ws q 0)) (t + b) (omega arith) (omega arith)))
+          record {
+            from = omega arith;
+            free = λ e. omega (arith, sym (h .on b (omega arith) (z .inside)) ∙ e, z .on);
+            taken = λ i a u.
+                let y : 64 * q + (i - 64 * q) ≡ i = omega arith in
+                ap (freeAt ws) (sym y) ∙ h .on (i - 64 * q) (omega arith) (omega (arith, z .inside)) ∙ z .first (i - 64 * q) (omega arith);
+          }
 
 -- ---- the answer
 
@@ -143,6 +155,10 @@ first-at f n first p l zeros some = go (decLt p n)
     go (yes h) = let e : min p n ≡ p = omega arith in e ∙ sym (ap (firstOr n) (places-first f first p (n - first) l (omega arith) zeros some))
     go (no h) = let e : min p n ≡ n = omega arith in e ∙ sym (ap (firstOr n) (places-none f first (n - first) (λ i a b. zeros i a (omega arith))))
 
+-- what is left of the first id's word w, as the code has it
+abbrev pub ownLeft : ℕ → ℕ → ℕ
+ownLeft first w = bitAnd (full - w) (full - (1 * 2 ^ (first % 64) % 2 ^ 64 - 1))
+
 module _ (ws : List ℕ) (n first : ℕ) where
   abbrev q : ℕ
   q = first / 64
@@ -150,50 +166,41 @@ module _ (ws : List ℕ) (n first : ℕ) where
   abbrev t : ℕ
   t = first % 64
 
-  here : 64 * q + t ≡ first
-  here = omega arith
+  own-left : (w : ℕ) → w ≡ getD ws q 0 → w ≤ full → Left ws q t (ownLeft first w)
+  own-left w e small =
+      subst (Left ws q t)
+      (sym (ap₂ (λ (x m : ℕ). bitAnd (full - x) (full - (m - 1))) e (shl-one t (omega arith))))
+      (left-from ws q (omega (arith, e)) t (omega arith))
 
   -- in the word of the first id
-  pub own-word : (w : ℕ) → w ≡ getD ws (first / 64) 0 → w ≤ full → (full - w) / 2 ^ (first % 64) ≢ 0
-      → min (first + trailingZeros 64 ((full - w) / 2 ^ (first % 64))) n ≡ firstOr n (freeIn ws n first)
-  own-word w w-is small some = rw w-is (go (λ e. some (ap (λ (x : ℕ). (full - x) / 2 ^ t) w-is ∙ e)) (omega arith))
-    where
-      go : (full - getD ws q 0) / 2 ^ t ≢ 0 → getD ws q 0 ≤ full
-          → min (first + trailingZeros 64 ((full - getD ws q 0) / 2 ^ t)) n ≡ firstOr n (freeIn ws n first)
-      go some small =
-          let l = first-left ws q t (omega arith) small some in
-          let b : ℕ = trailingZeros 64 ((full - getD ws q 0) / 2 ^ t) in
-          first-at (freeAt ws) n first (first + b) (omega arith) (λ i a u. l .taken i (omega (arith, here)) (omega (arith, here)))
-          (λ e. l .free (ap (λ (x : ℕ). freeAt ws (x + b)) here ∙ e))
+  pub own-word : (w : ℕ) → w ≡ getD ws (first / 64) 0 → w ≤ full → ownLeft first w ≢ 0
+      → min (64 * (first / 64) + trailingZeros 64 (ownLeft first w)) n ≡ firstOr n (freeIn ws n first)
+  own-word w e small some =
+      let l = first-left (own-left w e small) some in
+      first-at (freeAt ws) n first (64 * q + trailingZeros 64 (ownLeft first w)) (omega (arith, l .from)) (λ i a u. l .taken i (omega arith) u) (l .free)
 
   -- in the next word that is not full
-  pub next-word : (w p v : ℕ) → w ≡ getD ws (first / 64) 0 → w ≤ full → (full - w) / 2 ^ (first % 64) ≡ 0
+  pub next-word : (w p v : ℕ) → w ≡ getD ws (first / 64) 0 → w ≤ full → ownLeft first w ≡ 0
       → Opened ws (first / 64 + 1) p → v ≡ getD ws p 0 → v ≤ full
       → min (64 * p + trailingZeros 64 (full - v)) n ≡ firstOr n (freeIn ws n first)
-  next-word w p v w-is small none o v-is small-v = rw v-is (go (omega arith) (λ e. o .some (omega arith)))
+  next-word w p v e small none o v-is small-v =
+      let l = first-left there (λ z. o .some (omega (arith, v-is))) in
+      first-at (freeAt ws) n first (64 * p + trailingZeros 64 (full - v)) (omega (arith, o .skipped .from))
+      (λ i a u. at i a u (decLt i (64 * p)) (l .taken i)) (l .free)
     where
+      there : Left ws p 0 (full - v)
+      there = subst (Left ws p 0) (ap (λ (x : ℕ). full - x) (sym v-is)) (left-all ws p (omega (arith, v-is)))
+
       full-id : (i : ℕ) → getD ws (i / 64) 0 ≡ full → freeAt ws i ≡ 0
-      full-id i e =
+      full-id i f =
           let d : 64 * (i / 64) + 0 ≤ i = omega arith in
-          none-left ws (i / 64) 0 (omega arith) (omega arith) (ap (λ (x : ℕ). flip x / 2 ^ 0) e) i d (omega arith)
+          none-left (left-all ws (i / 64) (omega arith)) (ap flip f) i d (omega arith)
 
       before : (i : ℕ) → first ≤ i → i < 64 * p → Dec (i < 64 * q + 64) → freeAt ws i ≡ 0
-      before i a u (yes l) =
-          none-left ws q t (omega arith) (omega (arith, w-is)) (ap (λ (x : ℕ). (full - x) / 2 ^ t) (sym w-is) ∙ none) i (omega (arith, here)) l
+      before i a u (yes l) = none-left (own-left w e small) none i (omega arith) l
       before i a u (no l) = full-id i (o .skipped .passed (i / 64) (omega arith) (omega arith))
 
-      at : (b : ℕ) → ((i : ℕ) → 64 * p + 0 ≤ i → i < 64 * p + 0 + b → freeAt ws i ≡ 0) → (i : ℕ) → first ≤ i → i < 64 * p + b → Dec (i < 64 * p) → freeAt ws i ≡ 0
-      at b taken i a u (yes l) = before i a l (decLt i (64 * q + 64))
-      at b taken i a u (no l) = taken i (omega arith) (omega arith)
-
-      go : getD ws p 0 ≤ full → full - getD ws p 0 ≢ 0
-          → min (64 * p + trailingZeros 64 (full - getD ws p 0)) n ≡ firstOr n (freeIn ws n first)
-      go small some =
-          let z : (full - getD ws p 0) / 2 ^ 0 ≡ full - getD ws p 0 = div-one (full - getD ws p 0) in
-          let b : ℕ = trailingZeros 64 (full - getD ws p 0) in
-          let l : First ws p 0 (omega arith) small b =
-          subst (λ (x : ℕ). First ws p 0 (omega arith) small (trailingZeros 64 x)) z (first-left ws p 0 (omega arith) small (λ e. some (sym z ∙ e))) in
-          let y : 64 * p + 0 ≡ 64 * p = omega arith in
-          first-at (freeAt ws) n first (64 * p + b) (omega (arith, o .skipped .from))
-          (λ i a u. at b (l .taken) i a u (decLt i (64 * p)))
-          (λ e. l .free (ap (λ (x : ℕ). freeAt ws (x + b)) y ∙ e))
+      at : (i : ℕ) → first ≤ i → i < 64 * p + trailingZeros 64 (full - v) → Dec (i < 64 * p)
+          → (64 * p + 0 ≤ i → i < 64 * p + trailingZeros 64 (full - v) → freeAt ws i ≡ 0) → freeAt ws i ≡ 0
+      at i a u (yes l) taken = before i a l (decLt i (64 * q + 64))
+      at i a u (no l) taken = taken (omega arith) u

@@ -81,15 +81,17 @@ fn within(id: usize, n: usize) -> u32
     if id < n { id as u32 } else { n as u32 }
 }
 
-// The lowest free id from `first` on, or n where there is none: in its own word, or in the next one that is not full.
+// The lowest free id from `first` on, or n where there is none: in its own word, where the ids before it are left out, or in the next one that
+// is not full.
 fn search(layer: &[u64], n: usize, first: usize) -> u32
     requires { ⌜ Small (now layer) n first ⌝ }
     ensures { λ r. ⌜ r ≡ firstOr n (freeIn (now (layer .entry)) n first) ⌝ }
 {
     let q = first / 64;
-    let left = !store::get(layer, q) >> (first % 64);
+    let before = (1u64 << (first % 64)) - 1;
+    let left = !store::get(layer, q) & !before;
     if left != 0 {
-        return within(first + u64::trailing_zeros(left) as usize, n);
+        return within(64 * q + u64::trailing_zeros(left) as usize, n);
     }
     let p = open_word(layer, q + 1);
     let w = !store::get(layer, p);

@@ -87,6 +87,15 @@ bit-flip-in (suc n) w (suc b) h g =
 pub bit-flip : (w b : ℕ) → w < 2 ^ 64 → b < 64 → bit (flip w) b ≡ 1 - bit w b
 bit-flip = bit-flip-in 64
 
+-- the number whose lowest n bits are set
+pub ones-on : (n b : ℕ) → b < n → bit (2 ^ n - 1) b ≡ 1
+ones-on n b h =
+    let z : 2 ^ n - 1 ≡ (2 ^ n - 1) - 0 = omega arith in
+    ap (λ (x : ℕ). bit x b) z ∙ bit-flip-in n 0 b (pow-pos n) h ∙ ap (λ (x : ℕ). 1 - x) (bit-of-zero b)
+
+pub ones-off : (n b : ℕ) → n ≤ b → bit (2 ^ n - 1) b ≡ 0
+ones-off n b h = bit-high n (2 ^ n - 1) b (omega (arith, pow-pos n)) h
+
 -- ---- one bit
 pub bit-pow-same : (b : ℕ) → bit (2 ^ b) b ≡ 1
 unfolding bit

@@ -1,27 +1,35 @@
 -- `search` meets its contract: in the word of the first id, or in the next that is not full. Assumes nothing.
 use mathlib.Core.Path.{_∙_}
-use Prim.Native.Nat.{_-_, _/_, _%_, _^_, _≤_}
+use Prim.Native.Nat.{_-_, _%_, _≤_}
 use native.Mathlib.Omega.{arith}
 use lib.Count.{trailing-le}
+use lib.Pow.{pow-pos}
+use Rattle.util.proofs.Bits.{shl-one}
 use Rattle.set_free.specs.Steps.{full}
-use Rattle.set_free.proofs.Words.{own-word, next-word}
+use Rattle.set_free.proofs.Words.{ownLeft, own-word, next-word}
 use Rattle.set_free.proofs.search.Statement.{statement}
 use Rattle.set_free.proofs.search.Tie as tie
+
+shl-before : tie.Need-shl-before
+shl-before c = omega arith
+
+sub-before : tie.Need-sub-before
+sub-before c = let t = c .before .args .first % 64 in omega (arith, shl-one t (omega arith), pow-pos t)
 
 get-requires : tie.Need-get-requires
 get-requires c κs = tt
 
-shr-left : tie.Need-shr-left
-shr-left c = omega arith
+mul-within : tie.Need-mul-within
+mul-within c = omega (arith, c .before .before .before .pre .first-in)
 
 -- the lowest bit is no more than 64
 cast-within : tie.Need-cast-within
-cast-within c = omega (arith, trailing-le 64 ((full - c .before .get .result) / 2 ^ (c .before .before .before .args .first % 64)))
+cast-within c = omega (arith, trailing-le 64 (ownLeft (c .before .before .before .args .first) (c .before .get .result)))
 
 add-within : tie.Need-add-within
 add-within c =
     let s = c .before .before .before in
-    omega (arith, trailing-le 64 ((full - c .before .get .result) / 2 ^ (s .args .first % 64)), s .pre .first-in)
+    omega (arith, trailing-le 64 (ownLeft (s .args .first) (c .before .get .result)), s .pre .first-in)
 
 within-requires : tie.Need-within-requires
 within-requires c κs = c .before .before .before .pre .most
@@ -48,8 +56,8 @@ near c =
     let s = c .before .before .before .before in
     omega (arith, c .open-word .ensures .skipped .upto, s .pre .first-in, s .pre .long)
 
-mul-within : tie.Need-mul-within
-mul-within c = omega (arith, near (c .before))
+mul-within-2 : tie.Need-mul-within-2
+mul-within-2 c = omega (arith, near (c .before))
 
 cast-within-2 : tie.Need-cast-within-2
 cast-within-2 c = omega (arith, trailing-le 64 (full - c .get2 .result))
@@ -74,8 +82,10 @@ pub search-spec : {M : Type 1} → statement M
 search-spec =
     tie.close
     (tie.spec
+    shl-before
+    sub-before
     get-requires
-    shr-left
+    mul-within
     cast-within
     add-within
     within-requires
@@ -83,7 +93,7 @@ search-spec =
     add-open-word
     open-word-requires
     get-requires-2
-    mul-within
+    mul-within-2
     cast-within-2
     add-within-2
     within-requires-2
