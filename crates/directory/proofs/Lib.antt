@@ -1,5 +1,5 @@
 pub mod Answers
 pub mod Accepted
 pub mod History
-pub mod Witnesses
 pub mod Header
+pub mod Witnesses

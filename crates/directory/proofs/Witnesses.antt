@@ -1,4 +1,4 @@
--- NO CLAIM IS EMPTY: slices of the right lengths are opened, and then a chunk is given and returned.
+-- NO CLAIM IS EMPTY: slices of the right lengths are opened, and then a chunk is given and returned, or none where there is the header alone.
 use mathlib.Core.Bool.{true}
 use mathlib.Core.List.{List, [], _∷_}
 use mathlib.Core.Logic.{⊎-elim}
@@ -20,6 +20,7 @@ use Rattle.directory.specs.History.{historyOf, InOrder}
 use Rattle.directory.specs.History.DirectoryCall.{opening, giving}
 use Rattle.directory.proofs.Answers.{room-in, judge-0, return-0}
 use Rattle.directory.proofs.History.{in-order}
+use Rattle.directory.proofs.Header.{one-gives-none}
 
 module _ (d : Directory) (N : ℕ) (room : roomRefusal (length (d .store)) (length (d .owners)) N ≡ 0) where
   abbrev new : List ℕ
@@ -42,26 +43,31 @@ module _ (d : Directory) (N : ℕ) (room : roomRefusal (length (d .store)) (leng
   opened-cap : cap (historyOf d (opening N ∷ []) .now .store) ≡ N
   opened-cap = rw goes-through (opened-new .0 .is .names)
 
-  module _ (some : searchStart < N) (x : ℕ) (item : isItem x ≡ true) where
-    abbrev e : Directory
-    e = historyOf d (opening N ∷ []) .now
+  abbrev e : Directory
+  e = historyOf d (opening N ∷ []) .now
 
+  opened-order : InOrder (historyOf d (opening N ∷ []))
+  opened-order = in-order d (opening N ∷ []) some-opens
+
+  opened-ready : (x : ℕ) → isItem x ≡ true → itemRefusal e x ≡ 0
+  opened-ready x item = sym (judge-0 (e .store) (e .owners) x (is-store (opened-order .sound .is)) (opened-order .long) item)
+
+  -- of the header alone nothing is given
+  pub none-given : N ≡ 1 → (x : ℕ) → isItem x ≡ true → giveOf e x ≡ refuses 12 e
+  none-given one x item = one-gives-none e x (opened-ready x item) (opened-cap ∙ one)
+
+  module _ (some : searchStart < N) (x : ℕ) (item : isItem x ≡ true) where
     pub some-given : refusalNumber (giveOf e x) ≡ 0
     unfolding giveOf
-    some-given = rw (ready, found) refl
+    some-given = rw (opened-ready x item, found) refl
       where
-        h : InOrder (historyOf d (opening N ∷ []))
-        h = in-order d (opening N ∷ []) some-opens
-
-        ready : itemRefusal e x ≡ 0
-        ready = sym (judge-0 (e .store) (e .owners) x (is-store (h .sound .is)) (h .long) item)
-
         found : refusalNumber (firstFreeOf (e .store)) ≡ 0
         found =
+            let is = opened-order .sound .is in
             ⊎-elim
             (λ (g : (i : ℕ) × (firstFreeOf (e .store) ≡ gives i tt)). ap refusalNumber (g .1))
-            (λ (g : firstFreeOf (e .store) ≡ refuses 12 tt). absurd (opened-free searchStart (free-none (e .store) (h .sound .is) .0 g searchStart (omega arith) (omega (arith, opened-cap)))))
-            (free-told (e .store) (h .sound .is))
+            (λ (g : firstFreeOf (e .store) ≡ refuses 12 tt). absurd (opened-free searchStart (free-none (e .store) is .0 g searchStart (omega arith) (omega (arith, opened-cap)))))
+            (free-told (e .store) is)
 
     abbrev c : ℕ
     c = valueOf (giveOf e x)
