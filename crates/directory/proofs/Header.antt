@@ -9,13 +9,13 @@ use lib.ListN.{length}
 use Rattle.store.specs.Answer.{refuses, refusalNumber, valueOf}
 use Rattle.store.specs.Layout.{cap, StoreOf}
 use Rattle.store.specs.Word.{Member}
-use Rattle.store.proofs.Geometry.{is-store, store-is}
+use Rattle.store.proofs.Geometry.{store-is}
 use Rattle.set_free.proofs.Header.{one-is-full}
 use Rattle.directory.specs.Calls.{Directory, ownerAt, isItem, itemRefusal, giveOf, takeBackOf}
 use Rattle.directory.specs.History.{DirectoryCall, historyOf, InOrder, HeaderKept}
-use Rattle.directory.proofs.Answers.{item-in, judge-0, judged, return-15}
+use Rattle.directory.proofs.Answers.{item-in, judged, return-15}
 use Rattle.directory.proofs.Accepted.{give-lowest}
-use Rattle.directory.proofs.History.{in-order}
+use Rattle.directory.proofs.History.{in-order, in-order-ready}
 
 -- no chunk that is given is 0, in any slices
 pub never-given : (d : Directory) (x : ℕ) → refusalNumber (giveOf d x) ≡ 0 → valueOf (giveOf d x) ≢ 0
@@ -42,11 +42,8 @@ module _ (d : Directory) (ks : List DirectoryCall) (opened : historyOf d ks .fig
 
   refused : (x : ℕ) → isItem x ≡ true → takeBackOf e x 0 ≡ refuses 15 e
   unfolding takeBackOf
-  refused x i = rw (sym (return-15 e x 0 ready some other))
+  refused x i = rw (sym (return-15 e x 0 (in-order-ready order x i) some other))
     where
-      ready : itemRefusal e x ≡ 0
-      ready = sym (judge-0 (e .store) (e .owners) x (is-store (order .sound .is)) (order .long) i)
-
       some : 0 < length (e .owners)
       some = omega (arith, order .long, order .sound .is .some)
 

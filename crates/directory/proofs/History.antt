@@ -13,6 +13,7 @@ use Rattle.util.specs.Outcome.{Outcome}
 use Rattle.store.specs.Answer.{refuses, refusalNumber, valueOf}
 use Rattle.store.specs.Layout.{cap, isStore}
 use Rattle.store.specs.Word.{Member, countBelow, SoundStore}
+use Rattle.store.proofs.Geometry.{is-store}
 use Rattle.store.proofs.Members.{own}
 use Rattle.set_edit.specs.Calls.{addOf, removeOf}
 use Rattle.set_laws.proofs.Theorems.{fine-after-add, member-add, count-add, fine-after-remove, member-remove, count-remove}
@@ -22,7 +23,7 @@ use Rattle.set_whole.proofs.Theorems.{opened-by}
 use Rattle.directory.specs.Calls.{Directory, directory, ownerAt, isItem, roomRefusal, itemRefusal, directoryOpenOf, giveOf, takeBackOf}
 use Rattle.directory.specs.History.{DirectoryCall, outcomeOf, gave, Figures, ownedBy, afterAccepted, figuresAfter, History, oneMore, goOnWith, historyOf, Owns, InOrder, NoneGiven, UsedAgain}
 use Rattle.directory.specs.History.DirectoryCall.{opening, giving, returning}
-use Rattle.directory.proofs.Answers.{item-in, room-in, judged, Returned, returned}
+use Rattle.directory.proofs.Answers.{item-in, room-in, judge-0, judged, Returned, returned}
 use Rattle.directory.proofs.Accepted.{by-unless, found-lowest, give-lowest, return-owned, give-keeps}
 
 -- a byte has one owner at most
@@ -230,6 +231,10 @@ calls-hand h (k ∷ ks) p e = calls-hand (oneMore h k) ks (call-hands h k p) e
 -- owner, every other byte is 0, and the store is sound
 pub in-order : (d : Directory) (ks : List DirectoryCall) → historyOf d ks .figures .opened ≡ true → InOrder (historyOf d ks)
 in-order d ks e = calls-hand _ ks (λ z. absurd (true≢false (sym z))) e
+
+-- nothing stands in the way of a call for an item then
+pub in-order-ready : {h : History} → InOrder h → (x : ℕ) → isItem x ≡ true → itemRefusal (h .now) x ≡ 0
+in-order-ready {h} o x i = sym (judge-0 (h .now .store) (h .now .owners) x (is-store (o .sound .is)) (o .long) i)
 
 -- ---- "so returned chunks are used again"
 

@@ -10,7 +10,6 @@ use lib.ListN.{length, replicate}
 use Rattle.store.specs.Answer.{gives, does, refuses, refusalNumber, valueOf}
 use Rattle.store.specs.Layout.{cap}
 use Rattle.store.specs.Word.{Member, countBelow, SoundStore}
-use Rattle.store.proofs.Geometry.{is-store}
 use Rattle.set_free.specs.Calls.{searchStart, firstFreeOf}
 use Rattle.set_free.proofs.Lowest.{free-told, free-none}
 use Rattle.set_whole.specs.Calls.{openOf}
@@ -18,8 +17,8 @@ use Rattle.set_whole.proofs.Theorems.{opened-by}
 use Rattle.directory.specs.Calls.{Directory, directory, ownerAt, isItem, roomRefusal, itemRefusal, directoryOpenOf, giveOf, takeBackOf}
 use Rattle.directory.specs.History.{historyOf, InOrder}
 use Rattle.directory.specs.History.DirectoryCall.{opening, giving}
-use Rattle.directory.proofs.Answers.{room-in, judge-0, return-0}
-use Rattle.directory.proofs.History.{in-order}
+use Rattle.directory.proofs.Answers.{room-in, return-0}
+use Rattle.directory.proofs.History.{in-order, in-order-ready}
 use Rattle.directory.proofs.Header.{one-gives-none}
 
 module _ (d : Directory) (N : ℕ) (room : roomRefusal (length (d .store)) (length (d .owners)) N ≡ 0) where
@@ -50,7 +49,7 @@ module _ (d : Directory) (N : ℕ) (room : roomRefusal (length (d .store)) (leng
   opened-order = in-order d (opening N ∷ []) some-opens
 
   opened-ready : (x : ℕ) → isItem x ≡ true → itemRefusal e x ≡ 0
-  opened-ready x item = sym (judge-0 (e .store) (e .owners) x (is-store (opened-order .sound .is)) (opened-order .long) item)
+  opened-ready = in-order-ready opened-order
 
   -- of the header alone nothing is given
   pub none-given : N ≡ 1 → (x : ℕ) → isItem x ≡ true → giveOf e x ≡ refuses 12 e
@@ -75,7 +74,7 @@ module _ (d : Directory) (N : ℕ) (room : roomRefusal (length (d .store)) (leng
     -- and the chunk given is the item's, which may return it
     pub some-returned : refusalNumber (takeBackOf (giveOf e x .lent) x c) ≡ 0
     unfolding takeBackOf
-    some-returned = rw (sym (return-0 u x c ready below byte)) refl
+    some-returned = rw (sym (return-0 u x c (in-order-ready h x item) below byte)) refl
       where
         u : Directory
         u = giveOf e x .lent
@@ -91,6 +90,3 @@ module _ (d : Directory) (N : ℕ) (room : roomRefusal (length (d .store)) (leng
 
         below : c < length (u .owners)
         below = omega (arith, h .owned c .1 (x, record { item = item; byte = byte }) .below, h .long)
-
-        ready : itemRefusal u x ≡ 0
-        ready = sym (judge-0 (u .store) (u .owners) x (is-store (h .sound .is)) (h .long) item)

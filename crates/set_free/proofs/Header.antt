@@ -4,7 +4,6 @@ use mathlib.Core.List.{List}
 use mathlib.Core.Logic.{_≢_, _↔_}
 use mathlib.Core.Path.{_≡_, refl, sym, ap, _∙_}
 use Prim.Native.Nat.{ℕ, _+_, _-_, _≤_, _<_}
-use native.Mathlib.Decide.{ℕ-discrete}
 use native.Mathlib.Omega.{arith}
 use Rattle.util.specs.Word.{places}
 use Rattle.util.proofs.Places.{places-same}
@@ -12,8 +11,7 @@ use Rattle.store.specs.Answer.{gives, refuses, refusalNumber}
 use Rattle.store.specs.Layout.{isStore, StoreOf}
 use Rattle.store.specs.Word.{on, Member}
 use Rattle.store.proofs.Geometry.{is-store, store-is}
-use Rattle.store.proofs.Members.{member-on, on-member}
-use Rattle.store.proofs.Words.{on-lt}
+use Rattle.store.proofs.Members.{bits-agree}
 use Rattle.set_free.specs.Calls.{searchStart, freeFrom, firstOf, firstFreeOf}
 use Rattle.set_free.proofs.Lowest.{no-search, answer-is, free-found, free-none}
 
@@ -42,9 +40,4 @@ header-unseen {N} {s} {t} y z same =
     by-bits {u} x = answer-is u (store-is (is-store x)) ∙ ap (λ (n : ℕ). firstOf (freeFrom n u searchStart)) (x .names)
 
     alike : (i : ℕ) → searchStart ≤ i → i < searchStart + (N - searchStart) → free s i ≡ free t i
-    alike i a b = go (ℕ-discrete (on N s 0 i) 1) (ℕ-discrete (on N t 0 i) 1)
-      where
-        go : Dec (on N s 0 i ≡ 1) → Dec (on N t 0 i ≡ 1) → free s i ≡ free t i
-        go (yes e) f = omega (arith, e, member-on (z .names) (same i a .0 (on-member (y .names) (omega (arith, b)) e)) .1)
-        go (no e) (yes f) = absurd (e (member-on (y .names) (same i a .1 (on-member (z .names) (omega (arith, b)) f)) .1))
-        go (no e) (no f) = omega (arith, e, f, on-lt N s 0 i, on-lt N t 0 i)
+    alike i a b = ap (λ (x : ℕ). 1 - x) (bits-agree (y .names) (z .names) (omega arith) (same i a))

@@ -13,7 +13,7 @@ use Rattle.util.proofs.Places.{some-bit, places-none, places-in, in-places, pla
 use Rattle.store.specs.Layout.{header, top, room, storeLen, cap}
 use Rattle.store.specs.Word.{word, on, anc, Member, members, countBelow, Sound, Words64, SoundStore}
 use Rattle.store.proofs.Geometry.{spot-in}
-use Rattle.store.proofs.Words.{word-in, word-lt, on-lt, on-word, bit-place}
+use Rattle.store.proofs.Words.{word-in, word-lt, on-lt, on-same, on-word, bit-place}
 
 -- members of a store of capacity N, by the bits of layer 0
 pub member-on : {N : ℕ} {s : List ℕ} {j : ℕ} → cap s ≡ N → Member s j → (j < N) × (on N s 0 j ≡ 1)
@@ -21,6 +21,11 @@ member-on {s = s} {j = j} e m = subst (λ (n : ℕ). (j < n) × (on n s 0 j ≡ 
 
 pub on-member : {N : ℕ} {s : List ℕ} {j : ℕ} → cap s ≡ N → j < N → on N s 0 j ≡ 1 → Member s j
 on-member {s = s} {j = j} e h o = record { below = subst (λ (n : ℕ). j < n) (sym e) h; held = subst (λ (n : ℕ). on n s 0 j ≡ 1) (sym e) o }
+
+-- an id that is a member of both or of neither has the same bit in both
+pub bits-agree : {N : ℕ} {s t : List ℕ} → cap s ≡ N → cap t ≡ N → {j : ℕ} → j < N → Member s j ↔ Member t j → on N s 0 j ≡ on N t 0 j
+bits-agree {N} {s} {t} e f {j} l m =
+    on-same N s t 0 j (λ o. member-on f (m .0 (on-member e l o)) .1) (λ o. member-on e (m .1 (on-member f l o)) .1)
 
 -- a sound store, by its own capacity
 pub own : {N : ℕ} {s : List ℕ} → SoundStore N s → SoundStore (cap s) s
@@ -85,15 +90,7 @@ module _ (N : ℕ) (s t : List ℕ) (ws : Words64 s) (wt : Words64 t) where
       → (q : ℕ) → word N s k q ≡ word N t k q
   words-same k st ts q =
       word-ext (word N s k q) (word N t k q) (word-lt N s ws k q) (word-lt N t wt k q)
-      (λ b h. bit-place N s k q b h ∙ same (64 * q + b) ∙ sym (bit-place N t k q b h))
-    where
-      same : (p : ℕ) → on N s k p ≡ on N t k p
-      same p = go (ℕ-discrete (on N s k p) 1) (ℕ-discrete (on N t k p) 1)
-        where
-          go : Dec (on N s k p ≡ 1) → Dec (on N t k p ≡ 1) → on N s k p ≡ on N t k p
-          go (yes a) d = a ∙ sym (st p a)
-          go (no a) (yes b) = absurd (a (ts p b))
-          go (no a) (no b) = omega (arith, on-lt N s k p, on-lt N t k p)
+      (λ b h. let p = 64 * q + b in bit-place N s k q b h ∙ on-same N s t k p (st p) (ts p) ∙ sym (bit-place N t k q b h))
 
   -- from layer 0 up
   layers-same : Sound N s → Sound N t → ((p : ℕ) → p < N → on N s 0 p ≡ 1 → on N t 0 p ≡ 1) → ((p : ℕ) → p < N → on N t 0 p ≡ 1 → on N s 0 p ≡ 1)
@@ -125,6 +122,7 @@ pub fine-same : {N : ℕ} {s t : List ℕ} → SoundStore N s → SoundStore N t
 fine-same {N} {s} {t} f g m =
     by-layers N s t (f .is .long) (g .is .long)
     (λ x h. let z : x ≡ 0 = omega arith in ap (λ (y : ℕ). getD s y 0) z ∙ f .is .names ∙ sym (ap (λ (y : ℕ). getD t y 0) z ∙ g .is .names))
-    (layers-same N s t (f .words) (g .words) (f .sound) (g .sound)
-    (λ p l o. member-on (g .is .names) (m p .0 (on-member (f .is .names) l o)) .1)
-    (λ p l o. member-on (f .is .names) (m p .1 (on-member (g .is .names) l o)) .1))
+    (layers-same N s t (f .words) (g .words) (f .sound) (g .sound) (λ p l o. sym (agree p l) ∙ o) (λ p l o. agree p l ∙ o))
+  where
+    agree : (p : ℕ) → p < N → on N s 0 p ≡ on N t 0 p
+    agree p l = bits-agree (f .is .names) (g .is .names) l (m p)

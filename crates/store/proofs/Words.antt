@@ -52,6 +52,15 @@ pub on-lt : (N : ℕ) (s : List ℕ) (k p : ℕ) → on N s k p < 2
 unfolding on
 on-lt N s k p = bit-lt (word N s k (p / 64)) (p % 64)
 
+-- bits that are set together are equal
+pub on-same : (N : ℕ) (s t : List ℕ) (k p : ℕ) → (on N s k p ≡ 1 → on N t k p ≡ 1) → (on N t k p ≡ 1 → on N s k p ≡ 1) → on N s k p ≡ on N t k p
+on-same N s t k p st ts = go (ℕ-discrete (on N s k p) 1) (ℕ-discrete (on N t k p) 1)
+  where
+    go : Dec (on N s k p ≡ 1) → Dec (on N t k p ≡ 1) → on N s k p ≡ on N t k p
+    go (yes a) d = a ∙ sym (st a)
+    go (no a) (yes b) = absurd (a (ts b))
+    go (no a) (no b) = omega (arith, on-lt N s k p, on-lt N t k p)
+
 -- bit b of word q is the bit at place 64 q + b
 pub bit-place : (N : ℕ) (s : List ℕ) (k q b : ℕ) → b < 64 → bit (word N s k q) b ≡ on N s k (64 * q + b)
 unfolding on
