@@ -1,7 +1,7 @@
 // The bit that splits a word's set bits: `average_ones` of the Rust's util.rs on 64-bit words.
 ghost use Rattle.std.specs.Prelude.{ℕ};
 ghost use Rattle.util.specs.Outcome.{Settled};
-ghost use Rattle.average.specs.Average.{paper, averageOf};
+ghost use Rattle.average.specs.Average.{paper, average_of};
 ghost use Rattle.average.specs.Search.{Tallied, HalfStep, InRange};
 
 // The bit that splits a word's set bits, or none.
@@ -79,7 +79,7 @@ fn descend(s: Search, child: u64, stride: u64, mask: u64) -> Search
 
 // The set bit that has half of the set bits, rounded down, at or above it; none if fewer than two are set.
 pub fn average_ones(n: u64) -> Half
-    ensures { Settled paper (averageOf n) result tt }
+    ensures { Settled paper (average_of n) result tt }
 {
     let l = count_fields(n);
     let e = l.e;

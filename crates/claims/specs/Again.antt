@@ -8,6 +8,6 @@ use Rattle.claims.specs.Reached.{Reached}
 -- the reader's answer r, and the store u that it leaves, of a map of the store s of capacity N
 pub record Again (N : ℕ) (s : List ℕ) (r : Did) (u : List ℕ) : Type 0 where
   pub done : r ≡ Done
-  pub members-are : members u ≡ members s
+  pub members_are : members u ≡ members s
   pub words_are : u ≡ s
   pub reached : Reached N u

@@ -3,43 +3,43 @@ use Rattle.std.specs.Prelude.{Bool, true, false, ◌||◌, List, [], ◌∷◌, 
 use Rattle.std.proofs.Common.{ap}
 use Rattle.std.specs.Borrow.{Bor}
 use Rattle.util.specs.Outcome.{Outcome, Paper, Settled}
-use Rattle.average.specs.Average.{averageOf, paper as halfPaper}
-use Rattle.store.specs.Answer.{askedPaper, didPaper, foundPaper, readPaper}
-use Rattle.store.specs.Layout.{topMost, cap}
+use Rattle.average.specs.Average.{average_of, paper as halfPaper}
+use Rattle.store.specs.Answer.{asked_paper, did_paper, found_paper, read_paper}
+use Rattle.store.specs.Layout.{top_most, cap}
 use Rattle.store.specs.declared.Asked.TheVariants.{Refused as AskedRefused}
 use Rattle.store.specs.declared.Did.{Did}
 use Rattle.store.specs.declared.Did.TheVariants.{Refused as DidRefused}
 use Rattle.store.specs.declared.Found.TheVariants.{Refused as FoundRefused}
 use Rattle.store.specs.declared.Read.TheVariants.{Refused as ReadRefused}
-use Rattle.set_member.specs.Calls.{containsOf}
-use Rattle.set_edit.specs.Calls.{addOf, removeOf, addListOf}
-use Rattle.set_whole.specs.Calls.{openOf, clearOf, isEmptyOf, equal_of}
-use Rattle.set_layers.specs.Calls.{word_of, layerPart}
-use Rattle.set_free.specs.Calls.{firstFreeOf}
-use Rattle.set_superset.specs.Calls.{containsSetOf}
-use Rattle.summary.specs.Calls.{rebuildOf, isSoundOf}
-use Rattle.walk.specs.Calls.{stepPaper, start_of, nextIn, next_of, refused}
+use Rattle.set_member.specs.Calls.{contains_of}
+use Rattle.set_edit.specs.Calls.{add_of, remove_of, add_list_of}
+use Rattle.set_whole.specs.Calls.{open_of, clear_of, is_empty_of, equal_of}
+use Rattle.set_layers.specs.Calls.{word_of, layer_part}
+use Rattle.set_free.specs.Calls.{first_free_of}
+use Rattle.set_superset.specs.Calls.{contains_set_of}
+use Rattle.summary.specs.Calls.{rebuild_of, is_sound_of}
+use Rattle.walk.specs.Calls.{step_paper, start_of, next_in, next_of, refused}
 use Rattle.walk.specs.Walk.{start_at}
 use Rattle.walk.specs.declared.Cursor.{Cursor}
 use Rattle.walk.specs.declared.Step.{Step}
-use Rattle.walk_fill.specs.Fill.{batchPaper, batch, stopped, fillOf}
+use Rattle.walk_fill.specs.Fill.{batch_paper, batch, stopped, fill_of}
 use Rattle.walk_fill.specs.declared.Batch.{Batch}
 use Rattle.walk_fill.specs.declared.Stop.TheVariants.{Refused as StopRefused}
-use Rattle.walk_batches.specs.Calls.{startedOf}
+use Rattle.walk_batches.specs.Calls.{started_of}
 use Rattle.walk_reader.specs.Readers.{told}
 use Rattle.walk_reader.specs.declared.BitIter.{BitIter}
 use Rattle.walk_reader.specs.declared.Told.{Told}
-use Rattle.formula_ask.specs.Calls.{layerWordOf, formulaContainsOf, formulaIsEmptyOf}
-use Rattle.formula_walk.specs.Calls.{formulaStartOf, formulaNextOf}
-use Rattle.formula_fill.specs.Calls.{formulaFillOf}
+use Rattle.formula_ask.specs.Calls.{layer_word_of, formula_contains_of, formula_is_empty_of}
+use Rattle.formula_walk.specs.Calls.{formula_start_of, formula_next_of}
+use Rattle.formula_fill.specs.Calls.{formula_fill_of}
 use Rattle.ops_merge.specs.Calls.{BothSound, Assigned}
-use Rattle.map_write.specs.Answer.{wrotePaper}
-use Rattle.map_write.specs.Calls.{mapLengthOf, writeOf}
+use Rattle.map_write.specs.Answer.{wrote_paper}
+use Rattle.map_write.specs.Calls.{map_length_of, write_of}
 use Rattle.map_write.specs.declared.Wrote.TheVariants.{Refused as WroteRefused}
-use Rattle.map_read.specs.Answer.{mapForPaper}
-use Rattle.map_read.specs.Calls.{mapCapacityOf, read_of}
+use Rattle.map_read.specs.Answer.{map_for_paper}
+use Rattle.map_read.specs.Calls.{map_capacity_of, read_of}
 use Rattle.map_read.specs.declared.MapFor.TheVariants.{Refused as MapForRefused}
-use Rattle.directory.specs.Calls.{Directory, directoryOpenOf, giveOf, takeBackOf}
+use Rattle.directory.specs.Calls.{Directory, directory_open_of, give_of, take_back_of}
 
 -- ---- promises
 
@@ -77,21 +77,21 @@ Meets (makes s c) r y = (r.store ≡ s) × (r.cursor ≡ c)
 abbrev pub refusal : (p : Promise) → Answered p → ℕ
 refusal (fixes p f x o) r = get_or (p.numbers r) 0 0
 refusal (tells p o) r = 0
-refusal (merges op s t) r = get_or (didPaper.numbers r) 0 0
+refusal (merges op s t) r = get_or (did_paper.numbers r) 0 0
 refusal (makes s c) r = 0
 
 -- the table "Refusals by number", and those of document 02
-abbrev pub refusalNumbers : List ℕ
-refusalNumbers = 1 ∷ 2 ∷ 3 ∷ 4 ∷ 5 ∷ 6 ∷ 7 ∷ 8 ∷ 9 ∷ 10 ∷ 11 ∷ 12 ∷ 13 ∷ 14 ∷ 15 ∷ []
+abbrev pub refusal_numbers : List ℕ
+refusal_numbers = 1 ∷ 2 ∷ 3 ∷ 4 ∷ 5 ∷ 6 ∷ 7 ∷ 8 ∷ 9 ∷ 10 ∷ 11 ∷ 12 ∷ 13 ∷ 14 ∷ 15 ∷ []
 
-abbrev pub isAmong : List ℕ → ℕ → Bool
-isAmong [] n = false
-isAmong (m ∷ l) n = eqb n m || isAmong l n
+abbrev pub is_among : List ℕ → ℕ → Bool
+is_among [] n = false
+is_among (m ∷ l) n = eqb n m || is_among l n
 
 -- "Each returns its number and zeros elsewhere and changes nothing lent; a refused next hands back its cursor as given." The number n is one
 -- of the table, and f n is the answer with zeros elsewhere.
 pub record Refuses {R X : Type 0} (f : ℕ → R) (x : X) (n : ℕ) (r : R) (y : X) : Type 0 where
-  pub known : isAmong refusalNumbers n ≡ true
+  pub known : is_among refusal_numbers n ≡ true
   pub answer : r ≡ f n
   pub memory : y ≡ x
 
@@ -120,42 +120,42 @@ Alike (makes s c) r y r' y' = (r ≡ r') × (y ≡ y')
 -- ---- the calls
 
 -- A layer handed back, on paper: "an empty part stands for refusal 2, since no layer of a store is empty".
-abbrev partNumbers : List ℕ → List ℕ
-partNumbers [] = 2 ∷ []
-partNumbers (w ∷ l) = 0 ∷ w ∷ l
+abbrev part_numbers : List ℕ → List ℕ
+part_numbers [] = 2 ∷ []
+part_numbers (w ∷ l) = 0 ∷ w ∷ l
 
-abbrev partAnswer : List ℕ → List ℕ
-partAnswer [] = []
-partAnswer (n ∷ l) = l
+abbrev part_answer : List ℕ → List ℕ
+part_answer [] = []
+part_answer (n ∷ l) = l
 
-abbrev partBack : (l : List ℕ) → partAnswer (partNumbers l) ≡ l
-partBack [] = refl
-partBack (w ∷ l) = refl
+abbrev part_back : (l : List ℕ) → part_answer (part_numbers l) ≡ l
+part_back [] = refl
+part_back (w ∷ l) = refl
 
-abbrev pub partPaper : Paper (List ℕ)
-partPaper = record { numbers = partNumbers; answer = partAnswer; same = partBack }
+abbrev pub part_paper : Paper (List ℕ)
+part_paper = record { numbers = part_numbers; answer = part_answer; same = part_back }
 
-abbrev pub layerPartOf : List ℕ → ℕ → Outcome (Unit {0})
-layerPartOf s k = record { numbers = partPaper.numbers (layerPart s k); lent = tt }
+abbrev pub layer_part_of : List ℕ → ℕ → Outcome (Unit {0})
+layer_part_of s k = record { numbers = part_paper.numbers (layer_part s k); lent = tt }
 
 -- A reader's step, on paper: "the reads made and one of: member, paused, end". The reader keeps the cursor, so zeros stand for it.
 abbrev step_of : Told → Step
-step_of a = record { cursor = start_at topMost 0; reads = a.reads; answer = a.answer }
+step_of a = record { cursor = start_at top_most 0; reads = a.reads; answer = a.answer }
 
-abbrev pub toldPaper : Paper Told
-toldPaper = record {
-  numbers = λ a. stepPaper.numbers (step_of a);
-  answer = λ l. told (stepPaper.answer l);
-  same = λ a. ap told (stepPaper.same (step_of a));
+abbrev pub told_paper : Paper Told
+told_paper = record {
+  numbers = λ a. step_paper.numbers (step_of a);
+  answer = λ l. told (step_paper.answer l);
+  same = λ a. ap told (step_paper.same (step_of a));
 }
 
 -- a refused step of a reader: its number and no reads
-abbrev pub toldRefused : ℕ → Told
-toldRefused n = told (refused n (start_at topMost 0))
+abbrev pub told_refused : ℕ → Told
+told_refused n = told (refused n (start_at top_most 0))
 
 -- a reader's step: what it tells, and what is lent with the step's cursor in it
-abbrev pub toldOf : {X : Type 0} → Step → (Cursor → X) → Outcome X
-toldOf a at = record { numbers = toldPaper.numbers (told a); lent = at a.cursor }
+abbrev pub told_of : {X : Type 0} → Step → (Cursor → X) → Outcome X
+told_of a at = record { numbers = told_paper.numbers (told a); lent = at a.cursor }
 
 -- the reader of the same store at another cursor
 abbrev pub moved_to : BitIter → Cursor → BitIter
@@ -171,74 +171,74 @@ Moves it a r y = (y.store ≡ it.store) × (y.cursor ≡ a.cursor) × (r ≡ tol
 pub data Call : Type 0 where
   «open» : (s : List ℕ) (n : ℕ) → Call
   add remove contains : (s : List ℕ) (i : ℕ) → Call
-  addList : (s ids : List ℕ) → Call
+  add_list : (s ids : List ℕ) → Call
   is_empty clear : (s : List ℕ) → Call
   containsSet equal : (s t : List ℕ) → Call
-  getFromLayer : (s : List ℕ) (k i : ℕ) → Call
-  layerAsSlice : (s : List ℕ) (k : ℕ) → Call
-  averageOnes : (w : ℕ) → Call
+  get_from_layer : (s : List ℕ) (k i : ℕ) → Call
+  layer_as_slice : (s : List ℕ) (k : ℕ) → Call
+  average_ones : (w : ℕ) → Call
   firstFree isSound rebuild : (s : List ℕ) → Call
   bitorAssign bitandAssign bitxorAssign : (s t : List ℕ) → Call
   start : (s : List ℕ) (c : Cursor) → Call
   next : (s : List ℕ) (c : Cursor) (b : ℕ) → Call
   fill : (s : List ℕ) (c : Cursor) (b : ℕ) (out : List ℕ) → Call
-  containsF : (ss : List (List ℕ)) (cs : List ℕ) (i : ℕ) → Call
-  isEmptyF : (ss : List (List ℕ)) (cs : List ℕ) → Call
-  getFromLayerF : (ss : List (List ℕ)) (cs : List ℕ) (k i : ℕ) → Call
-  startF : (ss : List (List ℕ)) (cs : List ℕ) (c : Cursor) → Call
+  contains_f : (ss : List (List ℕ)) (cs : List ℕ) (i : ℕ) → Call
+  is_empty_f : (ss : List (List ℕ)) (cs : List ℕ) → Call
+  get_from_layer_f : (ss : List (List ℕ)) (cs : List ℕ) (k i : ℕ) → Call
+  start_f : (ss : List (List ℕ)) (cs : List ℕ) (c : Cursor) → Call
   next_f : (ss : List (List ℕ)) (cs : List ℕ) (c : Cursor) (b : ℕ) → Call
   fill_f : (ss : List (List ℕ)) (cs : List ℕ) (c : Cursor) (b : ℕ) (out : List ℕ) → Call
   write : (s m : List ℕ) → Call
   read : (m s : List ℕ) → Call
-  mapLength : (s : List ℕ) → Call
-  mapCapacity : (m : List ℕ) → Call
-  openDirectory : (d : Directory) (n : ℕ) → Call
+  map_length : (s : List ℕ) → Call
+  map_capacity : (m : List ℕ) → Call
+  open_directory : (d : Directory) (n : ℕ) → Call
   give : (d : Directory) (x : ℕ) → Call
-  takeBack : (d : Directory) (x i : ℕ) → Call
-  iterR : (v : Bor (List ℕ)) → Call
-  nextR : (it : BitIter) (b : ℕ) → Call
-  firstR : (s : List ℕ) (b : ℕ) → Call
+  take_back : (d : Directory) (x i : ℕ) → Call
+  iter_r : (v : Bor (List ℕ)) → Call
+  next_r : (it : BitIter) (b : ℕ) → Call
+  first_r : (s : List ℕ) (b : ℕ) → Call
 
 -- a refused batch: nothing handed out, no reads, the cursor as given
-abbrev pub noBatch : Cursor → ℕ → Batch
-noBatch c n = batch (stopped (StopRefused n) 0 c)
+abbrev pub no_batch : Cursor → ℕ → Batch
+no_batch c n = batch (stopped (StopRefused n) 0 c)
 
 -- each call's promise: `ensures` of the function, with the lists that are lent
-abbrev pub promiseOf : Call → Promise
-promiseOf («open» s n) = fixes didPaper DidRefused s (openOf s n)
-promiseOf (add s i) = fixes askedPaper AskedRefused s (addOf s i)
-promiseOf (remove s i) = fixes askedPaper AskedRefused s (removeOf s i)
-promiseOf (contains s i) = fixes askedPaper AskedRefused tt (containsOf s i)
-promiseOf (addList s ids) = fixes didPaper DidRefused s (addListOf s ids)
-promiseOf (is_empty s) = fixes askedPaper AskedRefused tt (isEmptyOf s)
-promiseOf (clear s) = fixes didPaper DidRefused s (clearOf s)
-promiseOf (containsSet s t) = fixes askedPaper AskedRefused tt (containsSetOf s t)
-promiseOf (equal s t) = fixes askedPaper AskedRefused tt (equal_of s t)
-promiseOf (getFromLayer s k i) = fixes readPaper ReadRefused tt (word_of s k i)
-promiseOf (layerAsSlice s k) = fixes partPaper (λ n. []) tt (layerPartOf s k)
-promiseOf (averageOnes w) = tells halfPaper (averageOf w)
-promiseOf (firstFree s) = fixes foundPaper FoundRefused tt (firstFreeOf s)
-promiseOf (isSound s) = fixes askedPaper AskedRefused tt (isSoundOf s)
-promiseOf (rebuild s) = fixes didPaper DidRefused s (rebuildOf s)
-promiseOf (bitorAssign s t) = merges 17 s t
-promiseOf (bitandAssign s t) = merges 16 s t
-promiseOf (bitxorAssign s t) = merges 18 s t
-promiseOf (start s c) = fixes stepPaper (λ n. refused n c) tt (start_of s c)
-promiseOf (next s c b) = fixes stepPaper (λ n. refused n c) tt (next_of s c b)
-promiseOf (fill s c b out) = fixes batchPaper (noBatch c) out (fillOf s c b out)
-promiseOf (containsF ss cs i) = fixes askedPaper AskedRefused tt (formulaContainsOf ss cs i)
-promiseOf (isEmptyF ss cs) = fixes askedPaper AskedRefused tt (formulaIsEmptyOf ss cs)
-promiseOf (getFromLayerF ss cs k i) = fixes readPaper ReadRefused tt (layerWordOf ss cs k i)
-promiseOf (startF ss cs c) = fixes stepPaper (λ n. refused n c) tt (formulaStartOf ss cs c)
-promiseOf (next_f ss cs c b) = fixes stepPaper (λ n. refused n c) tt (formulaNextOf ss cs c b)
-promiseOf (fill_f ss cs c b out) = fixes batchPaper (noBatch c) out (formulaFillOf ss cs c b out)
-promiseOf (write s m) = fixes wrotePaper WroteRefused m (writeOf s m)
-promiseOf (read m s) = fixes didPaper DidRefused s (read_of m s)
-promiseOf (mapLength s) = fixes wrotePaper WroteRefused tt (mapLengthOf s)
-promiseOf (mapCapacity m) = fixes mapForPaper MapForRefused tt (mapCapacityOf m)
-promiseOf (openDirectory d n) = fixes didPaper DidRefused d (directoryOpenOf d n)
-promiseOf (give d x) = fixes foundPaper FoundRefused d (giveOf d x)
-promiseOf (takeBack d x i) = fixes didPaper DidRefused d (takeBackOf d x i)
-promiseOf (iterR v) = makes v (startedOf v.now)
-promiseOf (nextR it b) = fixes toldPaper toldRefused it (toldOf (nextIn it.store.now it.cursor b) (moved_to it))
-promiseOf (firstR s b) = fixes toldPaper toldRefused tt (toldOf {X = Unit {0}} (nextIn s (startedOf s) b) (λ c. tt))
+abbrev pub promise_of : Call → Promise
+promise_of («open» s n) = fixes did_paper DidRefused s (open_of s n)
+promise_of (add s i) = fixes asked_paper AskedRefused s (add_of s i)
+promise_of (remove s i) = fixes asked_paper AskedRefused s (remove_of s i)
+promise_of (contains s i) = fixes asked_paper AskedRefused tt (contains_of s i)
+promise_of (add_list s ids) = fixes did_paper DidRefused s (add_list_of s ids)
+promise_of (is_empty s) = fixes asked_paper AskedRefused tt (is_empty_of s)
+promise_of (clear s) = fixes did_paper DidRefused s (clear_of s)
+promise_of (containsSet s t) = fixes asked_paper AskedRefused tt (contains_set_of s t)
+promise_of (equal s t) = fixes asked_paper AskedRefused tt (equal_of s t)
+promise_of (get_from_layer s k i) = fixes read_paper ReadRefused tt (word_of s k i)
+promise_of (layer_as_slice s k) = fixes part_paper (λ n. []) tt (layer_part_of s k)
+promise_of (average_ones w) = tells halfPaper (average_of w)
+promise_of (firstFree s) = fixes found_paper FoundRefused tt (first_free_of s)
+promise_of (isSound s) = fixes asked_paper AskedRefused tt (is_sound_of s)
+promise_of (rebuild s) = fixes did_paper DidRefused s (rebuild_of s)
+promise_of (bitorAssign s t) = merges 17 s t
+promise_of (bitandAssign s t) = merges 16 s t
+promise_of (bitxorAssign s t) = merges 18 s t
+promise_of (start s c) = fixes step_paper (λ n. refused n c) tt (start_of s c)
+promise_of (next s c b) = fixes step_paper (λ n. refused n c) tt (next_of s c b)
+promise_of (fill s c b out) = fixes batch_paper (no_batch c) out (fill_of s c b out)
+promise_of (contains_f ss cs i) = fixes asked_paper AskedRefused tt (formula_contains_of ss cs i)
+promise_of (is_empty_f ss cs) = fixes asked_paper AskedRefused tt (formula_is_empty_of ss cs)
+promise_of (get_from_layer_f ss cs k i) = fixes read_paper ReadRefused tt (layer_word_of ss cs k i)
+promise_of (start_f ss cs c) = fixes step_paper (λ n. refused n c) tt (formula_start_of ss cs c)
+promise_of (next_f ss cs c b) = fixes step_paper (λ n. refused n c) tt (formula_next_of ss cs c b)
+promise_of (fill_f ss cs c b out) = fixes batch_paper (no_batch c) out (formula_fill_of ss cs c b out)
+promise_of (write s m) = fixes wrote_paper WroteRefused m (write_of s m)
+promise_of (read m s) = fixes did_paper DidRefused s (read_of m s)
+promise_of (map_length s) = fixes wrote_paper WroteRefused tt (map_length_of s)
+promise_of (map_capacity m) = fixes map_for_paper MapForRefused tt (map_capacity_of m)
+promise_of (open_directory d n) = fixes did_paper DidRefused d (directory_open_of d n)
+promise_of (give d x) = fixes found_paper FoundRefused d (give_of d x)
+promise_of (take_back d x i) = fixes did_paper DidRefused d (take_back_of d x i)
+promise_of (iter_r v) = makes v (started_of v.now)
+promise_of (next_r it b) = fixes told_paper told_refused it (told_of (next_in it.store.now it.cursor b) (moved_to it))
+promise_of (first_r s b) = fixes told_paper told_refused tt (told_of {X = Unit {0}} (next_in s (started_of s) b) (λ c. tt))

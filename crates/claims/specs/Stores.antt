@@ -1,10 +1,10 @@
 -- The stores that a call is lent, and those that it leaves where it was lent them to be written: what is said of stores over every call.
 use Rattle.std.specs.Prelude.{Bool, cond, List, [], ◌∷◌, ℕ, eqb, length}
 use Rattle.store.specs.Layout.{cap}
-use Rattle.set_whole.specs.Calls.{openRefusal}
-use Rattle.directory.specs.Calls.{Directory, roomRefusal}
-use Rattle.claims.specs.Calls.{Memory, Call, promiseOf}
-use Rattle.claims.specs.Calls.Call.{«open», add, remove, contains, addList, is_empty, clear, containsSet, equal, getFromLayer, layerAsSlice, averageOnes, firstFree, isSound, rebuild, bitorAssign, bitandAssign, bitxorAssign, start, next, fill, containsF, isEmptyF, getFromLayerF, startF, next_f, fill_f, write, read, mapLength, mapCapacity, openDirectory, give, takeBack, iterR, nextR, firstR}
+use Rattle.set_whole.specs.Calls.{open_refusal}
+use Rattle.directory.specs.Calls.{Directory, room_refusal}
+use Rattle.claims.specs.Calls.{Memory, Call, promise_of}
+use Rattle.claims.specs.Calls.Call.{«open», add, remove, contains, add_list, is_empty, clear, containsSet, equal, get_from_layer, layer_as_slice, average_ones, firstFree, isSound, rebuild, bitorAssign, bitandAssign, bitxorAssign, start, next, fill, contains_f, is_empty_f, get_from_layer_f, start_f, next_f, fill_f, write, read, map_length, map_capacity, open_directory, give, take_back, iter_r, next_r, first_r}
 
 -- P of every store of a list, each with its capacity
 abbrev pub Each : (ℕ → List ℕ → Type 0) → List (ℕ × List ℕ) → Type 0
@@ -12,98 +12,98 @@ Each P [] = Unit {0}
 Each P (x ∷ l) = P x.0 x.1 × Each P l
 
 -- a store with the capacity that it names
-abbrev pub ofOwn : List ℕ → ℕ × List ℕ
-ofOwn s = (cap s, s)
+abbrev pub of_own : List ℕ → ℕ × List ℕ
+of_own s = (cap s, s)
 
 -- "an empty slice among the other three means not lent"
-abbrev pub notEmpty : List (List ℕ) → List (ℕ × List ℕ)
-notEmpty [] = []
-notEmpty (s ∷ ss) = let l = notEmpty ss in cond (eqb (length s) 0) l (ofOwn s ∷ l)
+abbrev pub not_empty : List (List ℕ) → List (ℕ × List ℕ)
+not_empty [] = []
+not_empty (s ∷ ss) = let l = not_empty ss in cond (eqb (length s) 0) l (of_own s ∷ l)
 
 -- whether an opening goes through: the set's, where refusals 1 and 2 are not given, and the directory's, where 13 is not given either
 abbrev pub opens : List ℕ → ℕ → Bool
-opens s n = eqb (openRefusal n (length s)) 0
+opens s n = eqb (open_refusal n (length s)) 0
 
-abbrev pub opensBoth : Directory → ℕ → Bool
-opensBoth d n = eqb (roomRefusal (length d.store) (length d.owners) n) 0
+abbrev pub opens_both : Directory → ℕ → Bool
+opens_both d n = eqb (room_refusal (length d.store) (length d.owners) n) 0
 
 -- THE STORES LENT to a call, to be read or to be written. "Open zeroes all words": where it goes through it is lent words and no store.
-abbrev pub lentTo : Call → List (ℕ × List ℕ)
-lentTo («open» s n) = cond (opens s n) [] (ofOwn s ∷ [])
-lentTo (add s i) = ofOwn s ∷ []
-lentTo (remove s i) = ofOwn s ∷ []
-lentTo (contains s i) = ofOwn s ∷ []
-lentTo (addList s ids) = ofOwn s ∷ []
-lentTo (is_empty s) = ofOwn s ∷ []
-lentTo (clear s) = ofOwn s ∷ []
-lentTo (containsSet s t) = ofOwn s ∷ ofOwn t ∷ []
-lentTo (equal s t) = ofOwn s ∷ ofOwn t ∷ []
-lentTo (getFromLayer s k i) = ofOwn s ∷ []
-lentTo (layerAsSlice s k) = ofOwn s ∷ []
-lentTo (averageOnes w) = []
-lentTo (firstFree s) = ofOwn s ∷ []
-lentTo (isSound s) = ofOwn s ∷ []
-lentTo (rebuild s) = ofOwn s ∷ []
-lentTo (bitorAssign s t) = ofOwn s ∷ ofOwn t ∷ []
-lentTo (bitandAssign s t) = ofOwn s ∷ ofOwn t ∷ []
-lentTo (bitxorAssign s t) = ofOwn s ∷ ofOwn t ∷ []
-lentTo (start s c) = ofOwn s ∷ []
-lentTo (next s c b) = ofOwn s ∷ []
-lentTo (fill s c b out) = ofOwn s ∷ []
-lentTo (containsF ss cs i) = notEmpty ss
-lentTo (isEmptyF ss cs) = notEmpty ss
-lentTo (getFromLayerF ss cs k i) = notEmpty ss
-lentTo (startF ss cs c) = notEmpty ss
-lentTo (next_f ss cs c b) = notEmpty ss
-lentTo (fill_f ss cs c b out) = notEmpty ss
-lentTo (write s m) = ofOwn s ∷ []
-lentTo (read m s) = ofOwn s ∷ []
-lentTo (mapLength s) = ofOwn s ∷ []
-lentTo (mapCapacity m) = []
-lentTo (openDirectory d n) = cond (opensBoth d n) [] (ofOwn d.store ∷ [])
-lentTo (give d x) = ofOwn d.store ∷ []
-lentTo (takeBack d x i) = ofOwn d.store ∷ []
-lentTo (iterR v) = ofOwn v.now ∷ []
-lentTo (nextR it b) = ofOwn it.store.now ∷ []
-lentTo (firstR s b) = ofOwn s ∷ []
+abbrev pub lent_to : Call → List (ℕ × List ℕ)
+lent_to («open» s n) = cond (opens s n) [] (of_own s ∷ [])
+lent_to (add s i) = of_own s ∷ []
+lent_to (remove s i) = of_own s ∷ []
+lent_to (contains s i) = of_own s ∷ []
+lent_to (add_list s ids) = of_own s ∷ []
+lent_to (is_empty s) = of_own s ∷ []
+lent_to (clear s) = of_own s ∷ []
+lent_to (containsSet s t) = of_own s ∷ of_own t ∷ []
+lent_to (equal s t) = of_own s ∷ of_own t ∷ []
+lent_to (get_from_layer s k i) = of_own s ∷ []
+lent_to (layer_as_slice s k) = of_own s ∷ []
+lent_to (average_ones w) = []
+lent_to (firstFree s) = of_own s ∷ []
+lent_to (isSound s) = of_own s ∷ []
+lent_to (rebuild s) = of_own s ∷ []
+lent_to (bitorAssign s t) = of_own s ∷ of_own t ∷ []
+lent_to (bitandAssign s t) = of_own s ∷ of_own t ∷ []
+lent_to (bitxorAssign s t) = of_own s ∷ of_own t ∷ []
+lent_to (start s c) = of_own s ∷ []
+lent_to (next s c b) = of_own s ∷ []
+lent_to (fill s c b out) = of_own s ∷ []
+lent_to (contains_f ss cs i) = not_empty ss
+lent_to (is_empty_f ss cs) = not_empty ss
+lent_to (get_from_layer_f ss cs k i) = not_empty ss
+lent_to (start_f ss cs c) = not_empty ss
+lent_to (next_f ss cs c b) = not_empty ss
+lent_to (fill_f ss cs c b out) = not_empty ss
+lent_to (write s m) = of_own s ∷ []
+lent_to (read m s) = of_own s ∷ []
+lent_to (map_length s) = of_own s ∷ []
+lent_to (map_capacity m) = []
+lent_to (open_directory d n) = cond (opens_both d n) [] (of_own d.store ∷ [])
+lent_to (give d x) = of_own d.store ∷ []
+lent_to (take_back d x i) = of_own d.store ∷ []
+lent_to (iter_r v) = of_own v.now ∷ []
+lent_to (next_r it b) = of_own it.store.now ∷ []
+lent_to (first_r s b) = of_own s ∷ []
 
 -- THE STORES THAT IT LEAVES where it was lent them to be written, in the memory y at exit: of the capacity that each had, or is opened for.
 -- Ids, the bytes of a map, owner bytes and a reader's cursor are no store.
-abbrev pub leftBy : (c : Call) → Memory (promiseOf c) → List (ℕ × List ℕ)
-leftBy («open» s n) y = (cond (opens s n) n (cap s), y) ∷ []
-leftBy (add s i) y = (cap s, y) ∷ []
-leftBy (remove s i) y = (cap s, y) ∷ []
-leftBy (contains s i) y = []
-leftBy (addList s ids) y = (cap s, y) ∷ []
-leftBy (is_empty s) y = []
-leftBy (clear s) y = (cap s, y) ∷ []
-leftBy (containsSet s t) y = []
-leftBy (equal s t) y = []
-leftBy (getFromLayer s k i) y = []
-leftBy (layerAsSlice s k) y = []
-leftBy (averageOnes w) y = []
-leftBy (firstFree s) y = []
-leftBy (isSound s) y = []
-leftBy (rebuild s) y = (cap s, y) ∷ []
-leftBy (bitorAssign s t) y = (cap s, y) ∷ []
-leftBy (bitandAssign s t) y = (cap s, y) ∷ []
-leftBy (bitxorAssign s t) y = (cap s, y) ∷ []
-leftBy (start s c) y = []
-leftBy (next s c b) y = []
-leftBy (fill s c b out) y = []
-leftBy (containsF ss cs i) y = []
-leftBy (isEmptyF ss cs) y = []
-leftBy (getFromLayerF ss cs k i) y = []
-leftBy (startF ss cs c) y = []
-leftBy (next_f ss cs c b) y = []
-leftBy (fill_f ss cs c b out) y = []
-leftBy (write s m) y = []
-leftBy (read m s) y = (cap s, y) ∷ []
-leftBy (mapLength s) y = []
-leftBy (mapCapacity m) y = []
-leftBy (openDirectory d n) y = (cond (opensBoth d n) n (cap d.store), y.store) ∷ []
-leftBy (give d x) y = (cap d.store, y.store) ∷ []
-leftBy (takeBack d x i) y = (cap d.store, y.store) ∷ []
-leftBy (iterR v) y = []
-leftBy (nextR it b) y = []
-leftBy (firstR s b) y = []
+abbrev pub left_by : (c : Call) → Memory (promise_of c) → List (ℕ × List ℕ)
+left_by («open» s n) y = (cond (opens s n) n (cap s), y) ∷ []
+left_by (add s i) y = (cap s, y) ∷ []
+left_by (remove s i) y = (cap s, y) ∷ []
+left_by (contains s i) y = []
+left_by (add_list s ids) y = (cap s, y) ∷ []
+left_by (is_empty s) y = []
+left_by (clear s) y = (cap s, y) ∷ []
+left_by (containsSet s t) y = []
+left_by (equal s t) y = []
+left_by (get_from_layer s k i) y = []
+left_by (layer_as_slice s k) y = []
+left_by (average_ones w) y = []
+left_by (firstFree s) y = []
+left_by (isSound s) y = []
+left_by (rebuild s) y = (cap s, y) ∷ []
+left_by (bitorAssign s t) y = (cap s, y) ∷ []
+left_by (bitandAssign s t) y = (cap s, y) ∷ []
+left_by (bitxorAssign s t) y = (cap s, y) ∷ []
+left_by (start s c) y = []
+left_by (next s c b) y = []
+left_by (fill s c b out) y = []
+left_by (contains_f ss cs i) y = []
+left_by (is_empty_f ss cs) y = []
+left_by (get_from_layer_f ss cs k i) y = []
+left_by (start_f ss cs c) y = []
+left_by (next_f ss cs c b) y = []
+left_by (fill_f ss cs c b out) y = []
+left_by (write s m) y = []
+left_by (read m s) y = (cap s, y) ∷ []
+left_by (map_length s) y = []
+left_by (map_capacity m) y = []
+left_by (open_directory d n) y = (cond (opens_both d n) n (cap d.store), y.store) ∷ []
+left_by (give d x) y = (cap d.store, y.store) ∷ []
+left_by (take_back d x i) y = (cap d.store, y.store) ∷ []
+left_by (iter_r v) y = []
+left_by (next_r it b) y = []
+left_by (first_r s b) y = []

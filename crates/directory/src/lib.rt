@@ -2,9 +2,9 @@
 // together. It leans on the promises of the set alone.
 ghost use Rattle.std.specs.Prelude.{◌≡◌, ◌<◌, length, replicate, set};
 ghost use Rattle.util.specs.Outcome.{Settled};
-ghost use Rattle.store.specs.Answer.{didPaper, foundPaper};
-ghost use Rattle.set_edit.specs.Calls.{addOf, removeOf};
-ghost use Rattle.directory.specs.Calls.{directory, isItem, itemRefusal, roomRefusal, returnRefusal, directoryOpenOf, giveOf, takeBackOf};
+ghost use Rattle.store.specs.Answer.{did_paper, found_paper};
+ghost use Rattle.set_edit.specs.Calls.{add_of, remove_of};
+ghost use Rattle.directory.specs.Calls.{directory, is_item, item_refusal, room_refusal, return_refusal, directory_open_of, give_of, take_back_of};
 
 use store::{Did, Found};
 
@@ -13,7 +13,7 @@ const ITEMS: u32 = 200;
 
 // Whether a number is an item's.
 fn is_item(item: u32) -> bool
-    ensures { result ≡ isItem item }
+    ensures { result ≡ is_item item }
 {
     if item == 0 {
         return false;
@@ -23,7 +23,7 @@ fn is_item(item: u32) -> bool
 
 // What stands in the way of opening with these slices: 0 for nothing, or the refusal's number.
 fn judge_open(words: usize, bytes: usize, n: usize) -> u32
-    ensures { result ≡ roomRefusal words bytes n }
+    ensures { result ≡ room_refusal words bytes n }
 {
     let no = set_whole::can_open(n, words);
     if no != 0 {
@@ -34,7 +34,7 @@ fn judge_open(words: usize, bytes: usize, n: usize) -> u32
 
 // What stands in the way of a call for an item: 0 for nothing, or the refusal's number.
 fn judge(store: &[u64], owners: &[u8], item: u32) -> u32
-    ensures { result ≡ itemRefusal (directory store.now owners.now) item }
+    ensures { result ≡ item_refusal (directory store.now owners.now) item }
 {
     let n = store::capacity(store);
     if n == 0 {
@@ -48,7 +48,7 @@ fn judge(store: &[u64], owners: &[u8], item: u32) -> u32
 
 // What stands in the way of a return: as for an item, and then that the chunk's byte is another.
 fn judge_return(store: &[u64], owners: &[u8], item: u32, chunk: u32) -> u32
-    ensures { result ≡ returnRefusal (directory store.now owners.now) item chunk }
+    ensures { result ≡ return_refusal (directory store.now owners.now) item chunk }
 {
     let no = judge(store, owners, item);
     if no != 0 {
@@ -75,7 +75,7 @@ fn zero(owners: &mut [u8])
 // The chunk becomes a member, and its byte the item.
 fn hand(store: &mut [u64], owners: &mut [u8], item: u32, chunk: u32)
     requires { (item < 256) × (chunk < length owners.old) }
-    ensures { (store.new ≡ (addOf store.old chunk).lent)
+    ensures { (store.new ≡ (add_of store.old chunk).lent)
         × (owners.new ≡ set owners.old chunk item) }
 {
     set_edit::add(store, chunk);
@@ -85,7 +85,7 @@ fn hand(store: &mut [u64], owners: &mut [u8], item: u32, chunk: u32)
 // The chunk is no member any more, and its byte is 0.
 fn release(store: &mut [u64], owners: &mut [u8], chunk: u32)
     requires { chunk < length owners.old }
-    ensures { (store.new ≡ (removeOf store.old chunk).lent)
+    ensures { (store.new ≡ (remove_of store.old chunk).lent)
         × (owners.new ≡ set owners.old chunk 0) }
 {
     set_edit::remove(store, chunk);
@@ -94,7 +94,7 @@ fn release(store: &mut [u64], owners: &mut [u8], chunk: u32)
 
 // Empties the store and the bytes, for a capacity of n.
 pub fn open(store: &mut [u64], owners: &mut [u8], n: u32) -> Did
-    ensures { Settled didPaper (directoryOpenOf (directory store.old owners.old) n) result
+    ensures { Settled did_paper (directory_open_of (directory store.old owners.old) n) result
         (directory store.new owners.new) }
 {
     let no = judge_open(store.len(), owners.len(), n as usize);
@@ -108,7 +108,7 @@ pub fn open(store: &mut [u64], owners: &mut [u8], n: u32) -> Did
 
 // Gives the lowest free chunk to an item; answers which.
 pub fn give(store: &mut [u64], owners: &mut [u8], item: u32) -> Found
-    ensures { Settled foundPaper (giveOf (directory store.old owners.old) item) result
+    ensures { Settled found_paper (give_of (directory store.old owners.old) item) result
         (directory store.new owners.new) }
 {
     let no = judge(store, owners, item);
@@ -125,7 +125,7 @@ pub fn give(store: &mut [u64], owners: &mut [u8], item: u32) -> Found
 
 // Takes a chunk back from the item that owns it.
 pub fn take_back(store: &mut [u64], owners: &mut [u8], item: u32, chunk: u32) -> Did
-    ensures { Settled didPaper (takeBackOf (directory store.old owners.old) item chunk) result
+    ensures { Settled did_paper (take_back_of (directory store.old owners.old) item chunk) result
         (directory store.new owners.new) }
 {
     let no = judge_return(store, owners, item, chunk);

@@ -1,6 +1,6 @@
 // What a caller in C or Rust is answered: structs of two numbers, made of the answers of the calls.
 ghost use Rattle.std.specs.Prelude.{cond, [], ◌∷◌, ◌≡◌};
-ghost use Rattle.store.specs.Answer.{askedPaper, didPaper, foundPaper, readPaper};
+ghost use Rattle.store.specs.Answer.{asked_paper, did_paper, found_paper, read_paper};
 ghost use Rattle.export_answer.specs.Abi.{answer_of};
 
 use store::{Asked, Did, Found, Read};
@@ -55,7 +55,7 @@ fn yes(b: bool) -> u64
 }
 
 pub fn asked(r: Asked) -> Answer
-    ensures { result ≡ answer_of (askedPaper.numbers r) }
+    ensures { result ≡ answer_of (asked_paper.numbers r) }
 {
     match r {
         Asked::Is(b) => value(yes(b)),
@@ -64,7 +64,7 @@ pub fn asked(r: Asked) -> Answer
 }
 
 pub fn did(r: Did) -> Answer
-    ensures { result ≡ answer_of (didPaper.numbers r) }
+    ensures { result ≡ answer_of (did_paper.numbers r) }
 {
     match r {
         Did::Done => value(0),
@@ -73,7 +73,7 @@ pub fn did(r: Did) -> Answer
 }
 
 pub fn found(r: Found) -> Answer
-    ensures { result ≡ answer_of (foundPaper.numbers r) }
+    ensures { result ≡ answer_of (found_paper.numbers r) }
 {
     match r {
         Found::At(id) => value(id as u64),
@@ -82,7 +82,7 @@ pub fn found(r: Found) -> Answer
 }
 
 pub fn read(r: Read) -> Answer
-    ensures { result ≡ answer_of (readPaper.numbers r) }
+    ensures { result ≡ answer_of (read_paper.numbers r) }
 {
     match r {
         Read::Word(w) => value(w),

@@ -1,7 +1,7 @@
 // A cursor as ten lent words, for callers that keep it as plain numbers: masks in words 0 to 3, prefixes in words 5 to 7, the reads of the
 // last call in word 9. Words 4 and 8 are room for a fifth layer.
 ghost use Rattle.std.specs.Prelude.{◌≡◌};
-ghost use Rattle.export_cursor.specs.Ten.{prefix_of, cursorOf, cursorWords};
+ghost use Rattle.export_cursor.specs.Ten.{prefix_of, cursor_of, cursor_words};
 
 use walk::Cursor;
 
@@ -14,7 +14,7 @@ fn prefix_in(w: u64) -> u32
 
 // The cursor that ten words hold: masks in words 0 to 3, prefixes in words 5 to 7.
 pub fn cursor_in(words: &[u64; 10]) -> Cursor
-    ensures { result ≡ cursorOf words.now }
+    ensures { result ≡ cursor_of words.now }
 {
     Cursor {
         masks: [words[0], words[1], words[2], words[3]],
@@ -28,7 +28,7 @@ pub fn cursor_in(words: &[u64; 10]) -> Cursor
 
 // A cursor and the reads written to its words. Words 4 and 8 are room for a fifth layer and stay.
 pub fn cursor_out(words: &mut [u64; 10], c: Cursor, reads: u64)
-    ensures { words.new ≡ cursorWords words.old c reads }
+    ensures { words.new ≡ cursor_words words.old c reads }
 {
     let m = c.masks;
     let p = c.prefix;

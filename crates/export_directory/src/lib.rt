@@ -1,24 +1,24 @@
 // The directory over a store, for C and Rust: slices arrive as pointer and length.
 ghost use Rattle.std.specs.Prelude.{◌≡◌};
-ghost use Rattle.directory.specs.Calls.{directory, directoryOpenOf, giveOf, takeBackOf};
+ghost use Rattle.directory.specs.Calls.{directory, directory_open_of, give_of, take_back_of};
 ghost use Rattle.export_answer.specs.Abi.{answer_of};
 
 use export_answer::Answer;
 
 #[unsafe(no_mangle)]
 pub extern "C" fn fen_directory_open(store: &mut [u64], owners: &mut [u8], n: u32) -> Answer
-    ensures value { result ≡ answer_of (directoryOpenOf (directory store.old owners.old) n).numbers }
-    ensures store_after { store.new ≡ (directoryOpenOf (directory store.old owners.old) n).lent.store }
-    ensures owners_after { owners.new ≡ (directoryOpenOf (directory store.old owners.old) n).lent.owners }
+    ensures value { result ≡ answer_of (directory_open_of (directory store.old owners.old) n).numbers }
+    ensures store_after { store.new ≡ (directory_open_of (directory store.old owners.old) n).lent.store }
+    ensures owners_after { owners.new ≡ (directory_open_of (directory store.old owners.old) n).lent.owners }
 {
     export_answer::did(directory::open(store, owners, n))
 }
 
 #[unsafe(no_mangle)]
 pub extern "C" fn fen_directory_give(store: &mut [u64], owners: &mut [u8], item: u32) -> Answer
-    ensures value { result ≡ answer_of (giveOf (directory store.old owners.old) item).numbers }
-    ensures store_after { store.new ≡ (giveOf (directory store.old owners.old) item).lent.store }
-    ensures owners_after { owners.new ≡ (giveOf (directory store.old owners.old) item).lent.owners }
+    ensures value { result ≡ answer_of (give_of (directory store.old owners.old) item).numbers }
+    ensures store_after { store.new ≡ (give_of (directory store.old owners.old) item).lent.store }
+    ensures owners_after { owners.new ≡ (give_of (directory store.old owners.old) item).lent.owners }
 {
     export_answer::found(directory::give(store, owners, item))
 }
@@ -30,9 +30,9 @@ pub extern "C" fn fen_directory_return(
     item: u32,
     chunk: u32,
 ) -> Answer
-    ensures value { result ≡ answer_of (takeBackOf (directory store.old owners.old) item chunk).numbers }
-    ensures store_after { store.new ≡ (takeBackOf (directory store.old owners.old) item chunk).lent.store }
-    ensures owners_after { owners.new ≡ (takeBackOf (directory store.old owners.old) item chunk).lent.owners }
+    ensures value { result ≡ answer_of (take_back_of (directory store.old owners.old) item chunk).numbers }
+    ensures store_after { store.new ≡ (take_back_of (directory store.old owners.old) item chunk).lent.store }
+    ensures owners_after { owners.new ≡ (take_back_of (directory store.old owners.old) item chunk).lent.owners }
 {
     export_answer::did(directory::take_back(store, owners, item, chunk))
 }

@@ -1,8 +1,8 @@
 -- The start of a walk over a formula as a C caller has it, over the four slices ss, the codes cs and the ten words l.
 use Rattle.std.specs.Prelude.{List, ℕ}
 use Rattle.walk.specs.declared.Step.{Step}
-use Rattle.formula_walk.specs.Calls.{formulaStartIn}
-use Rattle.export_cursor.specs.Ten.{cursorOf}
+use Rattle.formula_walk.specs.Calls.{formula_start_in}
+use Rattle.export_cursor.specs.Ten.{cursor_of}
 
-abbrev pub formulaStarted : List (List ℕ) → List ℕ → List ℕ → Step
-formulaStarted ss cs l = formulaStartIn ss cs (cursorOf l)
+abbrev pub formula_started : List (List ℕ) → List ℕ → List ℕ → Step
+formula_started ss cs l = formula_start_in ss cs (cursor_of l)

@@ -2,10 +2,10 @@
 // words.
 ghost use Rattle.std.specs.Prelude.{◌≡◌};
 ghost use Rattle.formula_codes.specs.Tree.{four};
-ghost use Rattle.formula_ask.specs.Calls.{formulaContainsOf, formulaIsEmptyOf, layerWordOf};
+ghost use Rattle.formula_ask.specs.Calls.{formula_contains_of, formula_is_empty_of, layer_word_of};
 ghost use Rattle.export_answer.specs.Abi.{answer_of};
-ghost use Rattle.export_step.specs.Answers.{movedOf, cursorAfter};
-ghost use Rattle.export_formula.specs.Walk.{formulaStarted};
+ghost use Rattle.export_step.specs.Answers.{moved_of, cursor_after};
+ghost use Rattle.export_formula.specs.Walk.{formula_started};
 
 use export_answer::Answer;
 use export_step::StepAnswer;
@@ -20,9 +20,9 @@ pub extern "C" fn fen_formula_start(
     cursor: &mut [u64; 10],
 ) -> StepAnswer
     ensures result_value { let ss = four s0.now s1.now s2.now s3.now in
-        result ≡ movedOf (formulaStarted ss codes.now cursor.old) }
+        result ≡ moved_of (formula_started ss codes.now cursor.old) }
     ensures cursor_after { let ss = four s0.now s1.now s2.now s3.now in
-        cursor.new ≡ cursorAfter (formulaStarted ss codes.now cursor.old) cursor.old }
+        cursor.new ≡ cursor_after (formula_started ss codes.now cursor.old) cursor.old }
 {
     let c = export_cursor::cursor_in(cursor);
     let s = formula_walk::start(c, codes, s0, s1, s2, s3);
@@ -39,7 +39,7 @@ pub extern "C" fn fen_formula_contains(
     id: u32,
 ) -> Answer
     ensures { let ss = four s0.now s1.now s2.now s3.now in
-        result ≡ answer_of (formulaContainsOf ss codes.now id).numbers }
+        result ≡ answer_of (formula_contains_of ss codes.now id).numbers }
 {
     export_answer::asked(formula_ask::contains(codes, s0, s1, s2, s3, id))
 }
@@ -53,7 +53,7 @@ pub extern "C" fn fen_formula_is_empty(
     s3: &[u64],
 ) -> Answer
     ensures { let ss = four s0.now s1.now s2.now s3.now in
-        result ≡ answer_of (formulaIsEmptyOf ss codes.now).numbers }
+        result ≡ answer_of (formula_is_empty_of ss codes.now).numbers }
 {
     export_answer::asked(formula_ask::is_empty(codes, s0, s1, s2, s3))
 }
@@ -69,7 +69,7 @@ pub extern "C" fn fen_formula_get_from_layer(
     index: usize,
 ) -> Answer
     ensures { let ss = four s0.now s1.now s2.now s3.now in
-        result ≡ answer_of (layerWordOf ss codes.now layer index).numbers }
+        result ≡ answer_of (layer_word_of ss codes.now layer index).numbers }
 {
     export_answer::read(formula_ask::get_from_layer(codes, s0, s1, s2, s3, layer, index))
 }

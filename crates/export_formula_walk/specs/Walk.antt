@@ -2,12 +2,12 @@
 use Rattle.std.specs.Prelude.{List, ℕ, length}
 use Rattle.walk.specs.declared.Step.{Step}
 use Rattle.walk_fill.specs.Fill.{Filled}
-use Rattle.formula_walk.specs.Calls.{formulaNextIn}
-use Rattle.formula_fill.specs.Calls.{formulaFillIn}
-use Rattle.export_cursor.specs.Ten.{cursorOf}
+use Rattle.formula_walk.specs.Calls.{formula_next_in}
+use Rattle.formula_fill.specs.Calls.{formula_fill_in}
+use Rattle.export_cursor.specs.Ten.{cursor_of}
 
-abbrev pub formulaStepped : List (List ℕ) → List ℕ → List ℕ → ℕ → Step
-formulaStepped ss cs l b = formulaNextIn ss cs (cursorOf l) b
+abbrev pub formula_stepped : List (List ℕ) → List ℕ → List ℕ → ℕ → Step
+formula_stepped ss cs l b = formula_next_in ss cs (cursor_of l) b
 
-abbrev pub formulaFilled : List (List ℕ) → List ℕ → List ℕ → ℕ → List ℕ → Filled
-formulaFilled ss cs l b out = formulaFillIn ss cs (cursorOf l) b (length out)
+abbrev pub formula_filled : List (List ℕ) → List ℕ → List ℕ → ℕ → List ℕ → Filled
+formula_filled ss cs l b out = formula_fill_in ss cs (cursor_of l) b (length out)

@@ -2,8 +2,8 @@
 // that the compiler places it inside the loop.
 ghost use Rattle.std.specs.Prelude.{◌≡◌};
 ghost use Rattle.formula_codes.specs.Tree.{four};
-ghost use Rattle.export_step.specs.Answers.{movedOf, cursorAfter, stoppedOf, fillWordsOf, out_of};
-ghost use Rattle.export_formula_walk.specs.Walk.{formulaStepped, formulaFilled};
+ghost use Rattle.export_step.specs.Answers.{moved_of, cursor_after, stopped_of, fill_words_of, out_of};
+ghost use Rattle.export_formula_walk.specs.Walk.{formula_stepped, formula_filled};
 
 use export_step::StepAnswer;
 
@@ -18,9 +18,9 @@ pub extern "C" fn fen_formula_next(
     budget: u64,
 ) -> StepAnswer
     ensures result_value { let ss = four s0.now s1.now s2.now s3.now in
-        result ≡ movedOf (formulaStepped ss codes.now cursor.old budget) }
+        result ≡ moved_of (formula_stepped ss codes.now cursor.old budget) }
     ensures cursor_after { let ss = four s0.now s1.now s2.now s3.now in
-        cursor.new ≡ cursorAfter (formulaStepped ss codes.now cursor.old budget) cursor.old }
+        cursor.new ≡ cursor_after (formula_stepped ss codes.now cursor.old budget) cursor.old }
 {
     let c = export_cursor::cursor_in(cursor);
     let s = formula_walk::next(c, codes, s0, s1, s2, s3, budget);
@@ -39,13 +39,13 @@ pub extern "C" fn fen_formula_fill(
     out: &mut [u32],
 ) -> StepAnswer
     ensures result_value { let ss = four s0.now s1.now s2.now s3.now in
-        result ≡ stoppedOf (formulaFilled ss codes.now cursor.old budget out.old) }
+        result ≡ stopped_of (formula_filled ss codes.now cursor.old budget out.old) }
     ensures cursor_after { let ss = four s0.now s1.now s2.now s3.now in
         let cs = codes.now in
-        cursor.new ≡ fillWordsOf (formulaFilled ss cs cursor.old budget out.old) cursor.old }
+        cursor.new ≡ fill_words_of (formula_filled ss cs cursor.old budget out.old) cursor.old }
     ensures out_after { let ss = four s0.now s1.now s2.now s3.now in
         let cs = codes.now in
-        out.new ≡ out_of (formulaFilled ss cs cursor.old budget out.old) out.old }
+        out.new ≡ out_of (formula_filled ss cs cursor.old budget out.old) out.old }
 {
     let c = export_cursor::cursor_in(cursor);
     let b = formula_fill::fill(c, codes, s0, s1, s2, s3, budget, out);

@@ -1,9 +1,9 @@
 // The chunk map for C and Rust: slices arrive as pointer and length.
 ghost use Rattle.std.specs.Prelude.{[], ◌∷◌, ◌≡◌};
-ghost use Rattle.map_write.specs.Answer.{wrotePaper};
-ghost use Rattle.map_write.specs.Calls.{mapLengthOf, writeOf};
-ghost use Rattle.map_read.specs.Answer.{mapForPaper};
-ghost use Rattle.map_read.specs.Calls.{mapCapacityOf, read_of};
+ghost use Rattle.map_write.specs.Answer.{wrote_paper};
+ghost use Rattle.map_write.specs.Calls.{map_length_of, write_of};
+ghost use Rattle.map_read.specs.Answer.{map_for_paper};
+ghost use Rattle.map_read.specs.Calls.{map_capacity_of, read_of};
 ghost use Rattle.export_answer.specs.Abi.{answer_of};
 
 use export_answer::Answer;
@@ -31,7 +31,7 @@ fn refused(number: u32) -> Answer
 
 // What the writer answers.
 fn wrote(r: Wrote) -> Answer
-    ensures { result ≡ answer_of (wrotePaper.numbers r) }
+    ensures { result ≡ answer_of (wrote_paper.numbers r) }
 {
     match r {
         Wrote::Length(n) => number(n),
@@ -41,7 +41,7 @@ fn wrote(r: Wrote) -> Answer
 
 // What a map says of its capacity.
 fn map_for(r: MapFor) -> Answer
-    ensures { result ≡ answer_of (mapForPaper.numbers r) }
+    ensures { result ≡ answer_of (map_for_paper.numbers r) }
 {
     match r {
         MapFor::Capacity(n) => number(n),
@@ -51,22 +51,22 @@ fn map_for(r: MapFor) -> Answer
 
 #[unsafe(no_mangle)]
 pub extern "C" fn fen_map_length(store: &[u64]) -> Answer
-    ensures { result ≡ answer_of (mapLengthOf store.now).numbers }
+    ensures { result ≡ answer_of (map_length_of store.now).numbers }
 {
     wrote(map_write::length(store))
 }
 
 #[unsafe(no_mangle)]
 pub extern "C" fn fen_map_write(store: &[u64], buf: &mut [u8]) -> Answer
-    ensures value { result ≡ answer_of (writeOf store.now buf.old).numbers }
-    ensures buf_after { buf.new ≡ (writeOf store.now buf.old).lent }
+    ensures value { result ≡ answer_of (write_of store.now buf.old).numbers }
+    ensures buf_after { buf.new ≡ (write_of store.now buf.old).lent }
 {
     wrote(map_write::write(store, buf))
 }
 
 #[unsafe(no_mangle)]
 pub extern "C" fn fen_map_capacity(map: &[u8]) -> Answer
-    ensures { result ≡ answer_of (mapCapacityOf map.now).numbers }
+    ensures { result ≡ answer_of (map_capacity_of map.now).numbers }
 {
     map_for(map_read::capacity(map))
 }

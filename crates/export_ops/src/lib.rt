@@ -1,6 +1,6 @@
 // Or, and, xor in place for C and Rust: slices arrive as pointer and length.
 ghost use Rattle.std.specs.Prelude.{◌≡◌};
-ghost use Rattle.ops_merge.specs.Calls.{assignOf};
+ghost use Rattle.ops_merge.specs.Calls.{assign_of};
 ghost use Rattle.export_answer.specs.Abi.{answer_of};
 ghost use Rattle.export_ops.specs.Calls.{Leaves};
 
@@ -8,7 +8,7 @@ use export_answer::Answer;
 
 #[unsafe(no_mangle)]
 pub extern "C" fn fen_bitor_assign(store: &mut [u64], other: &[u64]) -> Answer
-    ensures value { result ≡ answer_of (assignOf 17 store.old other.now).numbers }
+    ensures value { result ≡ answer_of (assign_of 17 store.old other.now).numbers }
     ensures leaves { Leaves 17 store.old other.now store.new }
 {
     export_answer::did(ops::bitor_assign(store, other))
@@ -16,7 +16,7 @@ pub extern "C" fn fen_bitor_assign(store: &mut [u64], other: &[u64]) -> Answer
 
 #[unsafe(no_mangle)]
 pub extern "C" fn fen_bitand_assign(store: &mut [u64], other: &[u64]) -> Answer
-    ensures value { result ≡ answer_of (assignOf 16 store.old other.now).numbers }
+    ensures value { result ≡ answer_of (assign_of 16 store.old other.now).numbers }
     ensures leaves { Leaves 16 store.old other.now store.new }
 {
     export_answer::did(ops::bitand_assign(store, other))
@@ -24,7 +24,7 @@ pub extern "C" fn fen_bitand_assign(store: &mut [u64], other: &[u64]) -> Answer
 
 #[unsafe(no_mangle)]
 pub extern "C" fn fen_bitxor_assign(store: &mut [u64], other: &[u64]) -> Answer
-    ensures value { result ≡ answer_of (assignOf 18 store.old other.now).numbers }
+    ensures value { result ≡ answer_of (assign_of 18 store.old other.now).numbers }
     ensures leaves { Leaves 18 store.old other.now store.new }
 {
     export_answer::did(ops::bitxor_assign(store, other))

@@ -5,21 +5,21 @@ use borrow.Author.Tests.{eq-eqb, ne_eqb}
 use Rattle.walk.specs.declared.Step.{Step}
 use Rattle.walk_reader.specs.Readers.{told}
 use Rattle.walk_reader.specs.declared.Told.{Told}
-use Rattle.export_step.specs.Answers.{step_of, movedOf}
+use Rattle.export_step.specs.Answers.{step_of, moved_of}
 use Rattle.export_step.specs.declared.StepAnswer.{StepAnswer}
-use Rattle.export_probe.specs.First.{readsLeft}
+use Rattle.export_probe.specs.First.{reads_left}
 
 abbrev kind : StepAnswer → ℕ
 kind a = a.which
 
 module _ (f : Step) {a : StepAnswer} where
-  pub told_moved : {t : Told} → a ≡ step_of t.answer → t ≡ told f → a ≡ movedOf f
+  pub told_moved : {t : Told} → a ≡ step_of t.answer → t ≡ told f → a ≡ moved_of f
   told_moved m e = m ∙ ap (λ (x : Told). step_of x.answer) e
 
   -- a refused step leaves the count
-  pub reads_kept : (r : ℕ) → a ≡ movedOf f → a.which ≡ 0 → r ≡ readsLeft f r
-  reads_kept r e h = sym (rw (eq-eqb (movedOf f).which 0 (sym (ap kind e) ∙ h)))
+  pub reads_kept : (r : ℕ) → a ≡ moved_of f → a.which ≡ 0 → r ≡ reads_left f r
+  reads_kept r e h = sym (rw (eq-eqb (moved_of f).which 0 (sym (ap kind e) ∙ h)))
 
   -- any other tells its reads
-  pub reads-told : {t : Told} (r : ℕ) → a ≡ movedOf f → t ≡ told f → (a.which ≡ 0 → ⊥) → t.reads ≡ readsLeft f r
-  reads-told r e s h = ap (λ (x : Told). x.reads) s ∙ sym (rw (ne_eqb (movedOf f).which 0 (λ (z : (movedOf f).which ≡ 0). h (ap kind e ∙ z))))
+  pub reads_told : {t : Told} (r : ℕ) → a ≡ moved_of f → t ≡ told f → (a.which ≡ 0 → ⊥) → t.reads ≡ reads_left f r
+  reads_told r e s h = ap (λ (x : Told). x.reads) s ∙ sym (rw (ne_eqb (moved_of f).which 0 (λ (z : (moved_of f).which ≡ 0). h (ap kind e ∙ z))))

@@ -2,8 +2,8 @@
 // first step.
 ghost use Rattle.std.specs.Prelude.{[], ◌∷◌, ◌≡◌};
 ghost use Rattle.util.specs.Row.{row_of, offset_of, mask_of};
-ghost use Rattle.export_step.specs.Answers.{movedOf};
-ghost use Rattle.export_probe.specs.First.{firstIn, readsLeft};
+ghost use Rattle.export_step.specs.Answers.{moved_of};
+ghost use Rattle.export_probe.specs.First.{first_in, reads_left};
 
 use export_step::StepAnswer;
 
@@ -38,8 +38,8 @@ pub extern "C" fn fen_probe_offsets(id: u32, words: &mut [u64; 3])
 
 #[unsafe(no_mangle)]
 pub extern "C" fn fen_probe_first(store: &[u64], budget: u64, reads: &mut u64) -> StepAnswer
-    ensures value { result ≡ movedOf (firstIn store.now budget) }
-    ensures reads_after { reads.new ≡ readsLeft (firstIn store.now budget) reads.old }
+    ensures value { result ≡ moved_of (first_in store.now budget) }
+    ensures reads_after { reads.new ≡ reads_left (first_in store.now budget) reads.old }
 {
     let t = walk_reader::first(store, budget);
     let n = t.answer;

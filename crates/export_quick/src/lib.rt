@@ -1,7 +1,7 @@
 // The next member of a walk whose cursor is kept as ten words, where it costs no read: it is handed out from the words alone.
 ghost use Rattle.std.specs.Prelude.{◌≡◌, ◌<◌, get_or};
-ghost use Rattle.store.specs.Layout.{maxCap};
-ghost use Rattle.export_quick.specs.Handing.{readyOf, handedId, handedOf, quickOf, quickWords};
+ghost use Rattle.store.specs.Layout.{max_cap};
+ghost use Rattle.export_quick.specs.Handing.{ready_of, handed_id, handed_of, quick_of, quick_words};
 
 // A member that is at hand, or none and 0.
 #[derive(Drop)]
@@ -12,7 +12,7 @@ pub struct Hand {
 
 // Whether nothing is refused and layer 0's mask has a bit.
 fn ready(store: &[u64], words: &[u64; 10]) -> bool
-    ensures { result ≡ readyOf store.now words.now }
+    ensures { result ≡ ready_of store.now words.now }
 {
     if words[0] == 0 {
         return false;
@@ -25,9 +25,9 @@ fn ready(store: &[u64], words: &[u64; 10]) -> bool
 
 // Layer 0's lowest bit is handed out, with no read.
 fn give(words: &mut [u64; 10]) -> u64
-    requires { (0 < get_or words.old 0 0) × (get_or words.old 5 0 < maxCap) }
-    ensures value { result ≡ handedId words.old }
-    ensures words_after { words.new ≡ handedOf words.old }
+    requires { (0 < get_or words.old 0 0) × (get_or words.old 5 0 < max_cap) }
+    ensures value { result ≡ handed_id words.old }
+    ensures words_after { words.new ≡ handed_of words.old }
 {
     let m = words[0];
     let w1 = words[1];
@@ -46,8 +46,8 @@ fn give(words: &mut [u64; 10]) -> u64
 
 // The next member where it costs no read and nothing is refused; else none, and the words stay.
 pub fn quick(store: &[u64], words: &mut [u64; 10]) -> Hand
-    ensures value { result ≡ quickOf store.now words.old }
-    ensures words_after { words.new ≡ quickWords store.now words.old }
+    ensures value { result ≡ quick_of store.now words.old }
+    ensures words_after { words.new ≡ quick_words store.now words.old }
 {
     if ready(store, words) {
         let id = give(words);

@@ -4,7 +4,7 @@ use mathlib.Core.Path.{◌≡◌, sym, ap, ◌∙◌}
 use Prim.Native.Nat.{ℕ}
 use borrow.Author.Tests.{eq-eqb, ne_eqb}
 use Rattle.walk.specs.declared.Cursor.{Cursor}
-use Rattle.export_cursor.specs.Ten.{cursorWords}
+use Rattle.export_cursor.specs.Ten.{cursor_words}
 use Rattle.export_step.specs.Answers.{left_of}
 use Rattle.export_step.specs.declared.StepAnswer.{StepAnswer}
 
@@ -17,5 +17,5 @@ module _ {a b : StepAnswer} (e : a ≡ b) (l : List ℕ) (c : Cursor) (r : ℕ) 
   kept h = sym (rw (eq-eqb b.which 0 (sym (ap kind e) ∙ h)))
 
   -- any other writes the cursor
-  pub wrote : (a.which ≡ 0 → ⊥) → cursorWords l c r ≡ left_of b l c r
+  pub wrote : (a.which ≡ 0 → ⊥) → cursor_words l c r ≡ left_of b l c r
   wrote h = sym (rw (ne_eqb b.which 0 (λ (z : b.which ≡ 0). h (ap kind e ∙ z))))

@@ -7,7 +7,7 @@ use Rattle.walk.specs.declared.Step.{Step}
 use Rattle.walk_fill.specs.Fill.{Filled, filled}
 use Rattle.walk_fill.specs.declared.Stop.{Stop}
 use Rattle.walk_fill.specs.declared.Stop.TheVariants.{Full, Paused as StopPaused, End as StopEnd, Refused as StopRefused}
-use Rattle.export_cursor.specs.Ten.{cursorWords}
+use Rattle.export_cursor.specs.Ten.{cursor_words}
 use Rattle.export_step.specs.declared.StepAnswer.{StepAnswer}
 
 -- "Each returns its number and zeros elsewhere and changes nothing lent; a refused next hands back its cursor as given."
@@ -20,30 +20,30 @@ step_of Paused = record { which = 2; value = 0 }
 step_of End = record { which = 3; value = 0 }
 
 -- 0 and the refusal's number; 2 for paused, 3 for the end, 4 for full, and how many members
-abbrev pub stopOf : Stop → ℕ → StepAnswer
-stopOf (StopRefused n) k = record { which = 0; value = n }
-stopOf StopPaused k = record { which = 2; value = k }
-stopOf StopEnd k = record { which = 3; value = k }
-stopOf Full k = record { which = 4; value = k }
+abbrev pub stop_of : Stop → ℕ → StepAnswer
+stop_of (StopRefused n) k = record { which = 0; value = n }
+stop_of StopPaused k = record { which = 2; value = k }
+stop_of StopEnd k = record { which = 3; value = k }
+stop_of Full k = record { which = 4; value = k }
 
 -- the words l at exit: as they were where the call is refused, else the cursor and the reads
 abbrev pub left_of : StepAnswer → List ℕ → Cursor → ℕ → List ℕ
-left_of a l c r = cond (eqb a.which 0) l (cursorWords l c r)
+left_of a l c r = cond (eqb a.which 0) l (cursor_words l c r)
 
 -- of a step
-abbrev pub movedOf : Step → StepAnswer
-movedOf a = step_of a.answer
+abbrev pub moved_of : Step → StepAnswer
+moved_of a = step_of a.answer
 
-abbrev pub cursorAfter : Step → List ℕ → List ℕ
-cursorAfter a l = left_of (movedOf a) l a.cursor a.reads
+abbrev pub cursor_after : Step → List ℕ → List ℕ
+cursor_after a l = left_of (moved_of a) l a.cursor a.reads
 
 -- ---- a fill: what is answered, the words at exit, and `out` at exit
 
-abbrev pub stoppedOf : Filled → StepAnswer
-stoppedOf f = stopOf f.stop (length f.ids)
+abbrev pub stopped_of : Filled → StepAnswer
+stopped_of f = stop_of f.stop (length f.ids)
 
-abbrev pub fillWordsOf : Filled → List ℕ → List ℕ
-fillWordsOf f l = left_of (stoppedOf f) l f.cursor f.reads
+abbrev pub fill_words_of : Filled → List ℕ → List ℕ
+fill_words_of f l = left_of (stopped_of f) l f.cursor f.reads
 
 -- the members that were found stand in front, and places that are not used stay as they were
 abbrev pub out_of : Filled → List ℕ → List ℕ

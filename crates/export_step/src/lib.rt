@@ -1,6 +1,6 @@
 // What a call of the walk says to a caller in C, and what it leaves in the ten words of its cursor.
 ghost use Rattle.std.specs.Prelude.{◌≡◌};
-ghost use Rattle.export_step.specs.Answers.{step_of, stopOf, left_of, movedOf, cursorAfter};
+ghost use Rattle.export_step.specs.Answers.{step_of, stop_of, left_of, moved_of, cursor_after};
 
 use walk::Next;
 use walk_fill::Stop;
@@ -32,7 +32,7 @@ pub fn moved(a: Next) -> StepAnswer
 }
 
 fn stopped(e: Stop, count: usize) -> StepAnswer
-    ensures { result ≡ stopOf e count }
+    ensures { result ≡ stop_of e count }
 {
     match e {
         Stop::Full => StepAnswer {
@@ -56,8 +56,8 @@ fn stopped(e: Stop, count: usize) -> StepAnswer
 
 // A step's cursor and reads are written, unless it is refused, and its answer said.
 pub fn told_step(words: &mut [u64; 10], s: walk::Step) -> StepAnswer
-    ensures value { result ≡ movedOf s }
-    ensures words_after { words.new ≡ cursorAfter s words.old }
+    ensures value { result ≡ moved_of s }
+    ensures words_after { words.new ≡ cursor_after s words.old }
 {
     let n = s.answer;
     let a = moved(n);
@@ -71,8 +71,8 @@ pub fn told_step(words: &mut [u64; 10], s: walk::Step) -> StepAnswer
 
 // The same of a batch.
 pub fn told_batch(words: &mut [u64; 10], b: walk_fill::Batch) -> StepAnswer
-    ensures value { result ≡ stopOf b.stop b.count }
-    ensures words_after { words.new ≡ left_of (stopOf b.stop b.count) words.old b.cursor b.reads }
+    ensures value { result ≡ stop_of b.stop b.count }
+    ensures words_after { words.new ≡ left_of (stop_of b.stop b.count) words.old b.cursor b.reads }
 {
     let e = b.stop;
     let a = stopped(e, b.count);

@@ -1,17 +1,17 @@
 -- The walk as a C caller has it: a cursor is lent as ten words, and an answer is two numbers. Every definition here computes.
 use Rattle.std.specs.Prelude.{List, ℕ, length}
-use Rattle.walk.specs.Calls.{start_in, nextIn}
+use Rattle.walk.specs.Calls.{start_in, next_in}
 use Rattle.walk.specs.declared.Step.{Step}
-use Rattle.walk_fill.specs.Fill.{Filled, fillIn}
-use Rattle.export_cursor.specs.Ten.{cursorOf}
+use Rattle.walk_fill.specs.Fill.{Filled, fill_in}
+use Rattle.export_cursor.specs.Ten.{cursor_of}
 
 -- ---- the calls on a store s and the words l
 
-abbrev pub walkStarted : List ℕ → List ℕ → Step
-walkStarted s l = start_in s (cursorOf l)
+abbrev pub walk_started : List ℕ → List ℕ → Step
+walk_started s l = start_in s (cursor_of l)
 
-abbrev pub walkStepped : List ℕ → List ℕ → ℕ → Step
-walkStepped s l b = nextIn s (cursorOf l) b
+abbrev pub walk_stepped : List ℕ → List ℕ → ℕ → Step
+walk_stepped s l b = next_in s (cursor_of l) b
 
-abbrev pub walkFilled : List ℕ → List ℕ → ℕ → List ℕ → Filled
-walkFilled s l b out = fillIn s (cursorOf l) b (length out)
+abbrev pub walk_filled : List ℕ → List ℕ → ℕ → List ℕ → Filled
+walk_filled s l b out = fill_in s (cursor_of l) b (length out)

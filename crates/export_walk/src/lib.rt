@@ -1,14 +1,14 @@
 // The walk for C and Rust: slices arrive as pointer and length, a cursor as ten words.
 ghost use Rattle.std.specs.Prelude.{◌≡◌};
-ghost use Rattle.export_step.specs.Answers.{movedOf, cursorAfter, stoppedOf, fillWordsOf, out_of};
-ghost use Rattle.export_walk.specs.Walk.{walkStarted, walkStepped, walkFilled};
+ghost use Rattle.export_step.specs.Answers.{moved_of, cursor_after, stopped_of, fill_words_of, out_of};
+ghost use Rattle.export_walk.specs.Walk.{walk_started, walk_stepped, walk_filled};
 
 use export_step::StepAnswer;
 
 #[unsafe(no_mangle)]
 pub extern "C" fn fen_start(store: &[u64], cursor: &mut [u64; 10]) -> StepAnswer
-    ensures value { result ≡ movedOf (walkStarted store.now cursor.old) }
-    ensures cursor_after { cursor.new ≡ cursorAfter (walkStarted store.now cursor.old) cursor.old }
+    ensures value { result ≡ moved_of (walk_started store.now cursor.old) }
+    ensures cursor_after { cursor.new ≡ cursor_after (walk_started store.now cursor.old) cursor.old }
 {
     let c = export_cursor::cursor_in(cursor);
     let s = c.start(store);
@@ -17,9 +17,9 @@ pub extern "C" fn fen_start(store: &[u64], cursor: &mut [u64; 10]) -> StepAnswer
 
 #[unsafe(no_mangle)]
 pub extern "C" fn fen_next(store: &[u64], cursor: &mut [u64; 10], budget: u64) -> StepAnswer
-    ensures value { result ≡ movedOf (walkStepped store.now cursor.old budget) }
+    ensures value { result ≡ moved_of (walk_stepped store.now cursor.old budget) }
     ensures cursor_after { let c = cursor.old in
-        cursor.new ≡ cursorAfter (walkStepped store.now c budget) c }
+        cursor.new ≡ cursor_after (walk_stepped store.now c budget) c }
 {
     let h = export_quick::quick(store, cursor);
     if h.some {
@@ -40,11 +40,11 @@ pub extern "C" fn fen_fill(
     budget: u64,
     out: &mut [u32],
 ) -> StepAnswer
-    ensures value { result ≡ stoppedOf (walkFilled store.now cursor.old budget out.old) }
+    ensures value { result ≡ stopped_of (walk_filled store.now cursor.old budget out.old) }
     ensures cursor_after { let c = cursor.old in
-        cursor.new ≡ fillWordsOf (walkFilled store.now c budget out.old) c }
+        cursor.new ≡ fill_words_of (walk_filled store.now c budget out.old) c }
     ensures out_after { let o = out.old in
-        out.new ≡ out_of (walkFilled store.now cursor.old budget o) o }
+        out.new ≡ out_of (walk_filled store.now cursor.old budget o) o }
 {
     let c = export_cursor::cursor_in(cursor);
     let b = walk_fill::fill(c, store, budget, out);

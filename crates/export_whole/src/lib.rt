@@ -1,38 +1,38 @@
 // The calls on a whole store, for C and Rust: slices arrive as pointer and length.
 ghost use Rattle.std.specs.Prelude.{◌≡◌};
-ghost use Rattle.set_whole.specs.Calls.{openOf, clearOf, isEmptyOf};
-ghost use Rattle.summary.specs.Calls.{rebuildOf};
+ghost use Rattle.set_whole.specs.Calls.{open_of, clear_of, is_empty_of};
+ghost use Rattle.summary.specs.Calls.{rebuild_of};
 ghost use Rattle.export_answer.specs.Abi.{answer_of};
 
 use export_answer::Answer;
 
 #[unsafe(no_mangle)]
 pub extern "C" fn fen_open(store: &mut [u64], n: u32) -> Answer
-    ensures value { result ≡ answer_of (openOf store.old n).numbers }
-    ensures store_after { store.new ≡ (openOf store.old n).lent }
+    ensures value { result ≡ answer_of (open_of store.old n).numbers }
+    ensures store_after { store.new ≡ (open_of store.old n).lent }
 {
     export_answer::did(set_whole::open(store, n))
 }
 
 #[unsafe(no_mangle)]
 pub extern "C" fn fen_clear(store: &mut [u64]) -> Answer
-    ensures value { result ≡ answer_of (clearOf store.old).numbers }
-    ensures store_after { store.new ≡ (clearOf store.old).lent }
+    ensures value { result ≡ answer_of (clear_of store.old).numbers }
+    ensures store_after { store.new ≡ (clear_of store.old).lent }
 {
     export_answer::did(set_whole::clear(store))
 }
 
 #[unsafe(no_mangle)]
 pub extern "C" fn fen_is_empty(store: &[u64]) -> Answer
-    ensures { result ≡ answer_of (isEmptyOf store.now).numbers }
+    ensures { result ≡ answer_of (is_empty_of store.now).numbers }
 {
     export_answer::asked(set_whole::is_empty(store))
 }
 
 #[unsafe(no_mangle)]
 pub extern "C" fn fen_rebuild(store: &mut [u64]) -> Answer
-    ensures value { result ≡ answer_of (rebuildOf store.old).numbers }
-    ensures store_after { store.new ≡ (rebuildOf store.old).lent }
+    ensures value { result ≡ answer_of (rebuild_of store.old).numbers }
+    ensures store_after { store.new ≡ (rebuild_of store.old).lent }
 {
     export_answer::did(summary::rebuild(store))
 }

@@ -1,17 +1,17 @@
 // The calls over a formula: the Rust's virtual sets, with the codes and the stores lent beside each other.
 ghost use Rattle.std.specs.Prelude.{◌≡◌};
 ghost use Rattle.util.specs.Outcome.{Settled};
-ghost use Rattle.store.specs.Answer.{askedPaper, readPaper};
+ghost use Rattle.store.specs.Answer.{asked_paper, read_paper};
 ghost use Rattle.formula_codes.specs.Tree.{four};
-ghost use Rattle.formula_ask.specs.Calls.{layerWordOf, formulaContainsOf, formulaIsEmptyOf};
-ghost use Rattle.formula_ask.specs.Steps.{refusalAt};
+ghost use Rattle.formula_ask.specs.Calls.{layer_word_of, formula_contains_of, formula_is_empty_of};
+ghost use Rattle.formula_ask.specs.Steps.{refusal_at};
 
 use store::{Asked, Read};
 
 // What a layer word is refused for, where the formula is refused for n, or for nothing: 2 and 5 come before a layer number above the top
 // layer's, and 6 behind it.
 fn refusal(top: usize, n: u32, layer: usize) -> u32
-    ensures { result ≡ refusalAt top n layer }
+    ensures { result ≡ refusal_at top n layer }
 {
     if layer <= top {
         return n;
@@ -33,7 +33,7 @@ pub fn get_from_layer(
     idx: usize,
 ) -> Read
     ensures { let ss = four s0.now s1.now s2.now s3.now in
-        Settled readPaper (layerWordOf ss codes.now layer idx) result tt }
+        Settled read_paper (layer_word_of ss codes.now layer idx) result tt }
 {
     let n = store::named(s0);
     let top = store::top(n);
@@ -50,7 +50,7 @@ pub fn get_from_layer(
 // Whether an id is a member of a formula; no at and past the capacity.
 pub fn contains(codes: &[u8], s0: &[u64], s1: &[u64], s2: &[u64], s3: &[u64], id: u32) -> Asked
     ensures { let ss = four s0.now s1.now s2.now s3.now in
-        Settled askedPaper (formulaContainsOf ss codes.now id) result tt }
+        Settled asked_paper (formula_contains_of ss codes.now id) result tt }
 {
     let no = formula_codes::check(codes, s0, s1, s2, s3);
     if no != 0 {
@@ -67,7 +67,7 @@ pub fn contains(codes: &[u8], s0: &[u64], s1: &[u64], s2: &[u64], s3: &[u64], id
 // Whether the top word of a formula is 0: then it has no member.
 pub fn is_empty(codes: &[u8], s0: &[u64], s1: &[u64], s2: &[u64], s3: &[u64]) -> Asked
     ensures { let ss = four s0.now s1.now s2.now s3.now in
-        Settled askedPaper (formulaIsEmptyOf ss codes.now) result tt }
+        Settled asked_paper (formula_is_empty_of ss codes.now) result tt }
 {
     let no = formula_codes::check(codes, s0, s1, s2, s3);
     if no != 0 {

@@ -8,8 +8,8 @@ use Rattle.formula_codes.specs.Tree.Tree.{store, both, either, one_of, inverse, 
 pub data CodeKind : Type 0 where
   is_store isBoth isEither isOneOf isInverse isEvery isUnknown : CodeKind
 
-unfoldable pub codeKind : ℕ → CodeKind
-codeKind c =
+unfoldable pub code_kind : ℕ → CodeKind
+code_kind c =
     cond (ltb c 4) is_store
     (cond (eqb c 16) isBoth
     (cond (eqb c 17) isEither
@@ -20,43 +20,43 @@ codeKind c =
 -- ---- the tree
 
 -- the last two that wait become one, or the last another; where too few wait the codes are no formula
-abbrev pub joinTwo : (Tree → Tree → Tree) → List Tree → List Tree
-joinTwo f [] = []
-joinTwo f (b ∷ []) = b ∷ []
-joinTwo f (b ∷ a ∷ st) = f a b ∷ st
+abbrev pub join_two : (Tree → Tree → Tree) → List Tree → List Tree
+join_two f [] = []
+join_two f (b ∷ []) = b ∷ []
+join_two f (b ∷ a ∷ st) = f a b ∷ st
 
-abbrev pub turnOne : (Tree → Tree) → List Tree → List Tree
-turnOne f [] = []
-turnOne f (a ∷ st) = f a ∷ st
+abbrev pub turn_one : (Tree → Tree) → List Tree → List Tree
+turn_one f [] = []
+turn_one f (a ∷ st) = f a ∷ st
 
 -- one code on the trees that wait, the last of them first
 abbrev pub grow : CodeKind → ℕ → List Tree → List Tree
 grow is_store c st = store c ∷ st
-grow isBoth c st = joinTwo both st
-grow isEither c st = joinTwo either st
-grow isOneOf c st = joinTwo one_of st
-grow isInverse c st = turnOne inverse st
+grow isBoth c st = join_two both st
+grow isEither c st = join_two either st
+grow isOneOf c st = join_two one_of st
+grow isInverse c st = turn_one inverse st
 grow isEvery c st = every ∷ st
 grow isUnknown c st = st
 
 unfoldable pub trees : List ℕ → List Tree → List Tree
 trees [] st = st
-trees (c ∷ cs) st = trees cs (grow (codeKind c) c st)
+trees (c ∷ cs) st = trees cs (grow (code_kind c) c st)
 
-abbrev pub firstTree : List Tree → Tree
-firstTree [] = every
-firstTree (e ∷ st) = e
+abbrev pub first_tree : List Tree → Tree
+first_tree [] = every
+first_tree (e ∷ st) = e
 
 -- the formula that the codes stand for
 unfoldable pub tree_of : List ℕ → Tree
-tree_of cs = firstTree (trees cs [])
+tree_of cs = first_tree (trees cs [])
 
 -- ---- which codes look at the bits that exist
 
 -- "19 not, 20 all": whether some code looks at which bits exist; every code above 20 counts as one
-unfoldable pub cutsIn : List ℕ → Bool
-cutsIn [] = false
-cutsIn (c ∷ cs) = leb 19 c || cutsIn cs
+unfoldable pub cuts_in : List ℕ → Bool
+cuts_in [] = false
+cuts_in (c ∷ cs) = leb 19 c || cuts_in cs
 
 -- ---- the check
 
@@ -71,18 +71,18 @@ takes isEvery lent = 0
 takes isUnknown lent = 9
 
 -- the values that a code takes where the four slices have these lengths: "an empty slice among the other three means not lent"
-unfoldable pub takesIn : List ℕ → ℕ → ℕ
-takesIn ls c = takes (codeKind c) (ltb 0 (get_or ls c 0))
+unfoldable pub takes_in : List ℕ → ℕ → ℕ
+takes_in ls c = takes (code_kind c) (ltb 0 (get_or ls c 0))
 
 -- "At most 8 values wait at once and exactly one is left": how many wait after the codes, where d wait before them; 0 if some code finds
 -- too few values, or leaves eight of them where it would put one more
 unfoldable pub left : List ℕ → List ℕ → ℕ → ℕ
 left ls [] d = d
 left ls (c ∷ cs) d =
-    let t = takesIn ls c in
+    let t = takes_in ls c in
     let r = left ls cs (suc (d - t)) in
     cond (leb t d && ltb (d - t) 8) r 0
 
 -- refusal 6 is given exactly where this is false
-unfoldable pub isFormula : List (List ℕ) → List ℕ → Bool
-isFormula ss cs = (leb 1 (length cs) && leb (length cs) 32) && eqb (left (map length ss) cs 0) 1
+unfoldable pub is_formula : List (List ℕ) → List ℕ → Bool
+is_formula ss cs = (leb 1 (length cs) && leb (length cs) 32) && eqb (left (map length ss) cs 0) 1

@@ -1,8 +1,8 @@
 // The codes of a formula over at most four stores: which lists of codes are one, and what is refused.
 ghost use Rattle.std.specs.Prelude.{true, ◌≢◌, ◌≡◌, ◌≤◌, length};
-ghost use Rattle.store.specs.Layout.{maxCap, storeLen};
-ghost use Rattle.formula_codes.specs.Check.{besideOf, sooner, stores_of, checkOf};
-ghost use Rattle.formula_codes.specs.Codes.{cutsIn, takesIn, left, isFormula};
+ghost use Rattle.store.specs.Layout.{max_cap, store_len};
+ghost use Rattle.formula_codes.specs.Check.{beside_of, sooner, stores_of, check_of};
+ghost use Rattle.formula_codes.specs.Codes.{cuts_in, takes_in, left, is_formula};
 ghost use Rattle.formula_codes.specs.Steps.{waiting};
 ghost use Rattle.formula_codes.specs.Tree.{joined, four};
 
@@ -25,7 +25,7 @@ pub fn joined(code: u8, k: usize, x: u64, y: u64) -> u64
 
 // Whether some code is 19 or more: no other looks at which bits exist.
 pub fn cuts(codes: &[u8]) -> bool
-    ensures { result ≡ cutsIn codes.now }
+    ensures { result ≡ cuts_in codes.now }
 {
     let mut j = 0usize;
     while j < codes.len() {
@@ -53,7 +53,7 @@ fn sooner(a: u32, b: u32) -> u32
 // What a slice that is not empty is refused for beside a store of capacity n: 0, 2 or 5.
 fn other(n: usize, s: &[u64]) -> u32
     requires { length s.now ≢ 0 }
-    ensures { result ≡ besideOf n s.now }
+    ensures { result ≡ beside_of n s.now }
 {
     let m = store::capacity(s);
     if m == 0 {
@@ -64,7 +64,7 @@ fn other(n: usize, s: &[u64]) -> u32
 
 // What a slice is refused for beside a store of capacity n.
 fn beside(n: usize, s: &[u64]) -> u32
-    ensures { result ≡ besideOf n s.now }
+    ensures { result ≡ beside_of n s.now }
 {
     if s.len() == 0 {
         return 0;
@@ -74,8 +74,8 @@ fn beside(n: usize, s: &[u64]) -> u32
 
 // Whether a slice is empty, or names n as well and is as long as a store of capacity n, so that it needs no store test.
 fn like(n: usize, len: usize, s: &[u64]) -> bool
-    requires { (1 ≤ n) × (n ≤ maxCap) × (len ≡ storeLen n) }
-    ensures { result ≡ true → 0 ≡ besideOf n s.now }
+    requires { (1 ≤ n) × (n ≤ max_cap) × (len ≡ store_len n) }
+    ensures { result ≡ true → 0 ≡ beside_of n s.now }
 {
     if s.len() == 0 {
         return true;
@@ -88,9 +88,9 @@ fn like(n: usize, len: usize, s: &[u64]) -> bool
 
 // The same of three slices.
 fn alike(n: usize, len: usize, s1: &[u64], s2: &[u64], s3: &[u64]) -> bool
-    requires { (1 ≤ n) × (n ≤ maxCap) × (len ≡ storeLen n) }
-    ensures { result ≡ true → (0 ≡ besideOf n s1.now) × (0 ≡ besideOf n s2.now)
-        × (0 ≡ besideOf n s3.now) }
+    requires { (1 ≤ n) × (n ≤ max_cap) × (len ≡ store_len n) }
+    ensures { result ≡ true → (0 ≡ beside_of n s1.now) × (0 ≡ beside_of n s2.now)
+        × (0 ≡ beside_of n s3.now) }
 {
     if !like(n, len, s1) {
         return false;
@@ -133,7 +133,7 @@ fn put(d: usize, t: usize) -> usize
 // there. 19 takes one value, 20 none.
 fn after(code: u8, lens: &[usize; 4], d: usize) -> usize
     requires { d ≤ 8 }
-    ensures { result ≡ waiting (takesIn lens.now code) d }
+    ensures { result ≡ waiting (takes_in lens.now code) d }
 {
     match code {
         0..=3 => {
@@ -167,7 +167,7 @@ fn left(codes: &[u8], lens: &[usize; 4]) -> usize
 
 // Whether the codes are a formula over the four slices.
 fn is_formula(codes: &[u8], s0: &[u64], s1: &[u64], s2: &[u64], s3: &[u64]) -> bool
-    ensures { result ≡ isFormula (four s0.now s1.now s2.now s3.now) codes.now }
+    ensures { result ≡ is_formula (four s0.now s1.now s2.now s3.now) codes.now }
 {
     let n = codes.len();
     if n == 0 {
@@ -182,7 +182,7 @@ fn is_formula(codes: &[u8], s0: &[u64], s1: &[u64], s2: &[u64], s3: &[u64]) -> b
 
 // The judge of every call over a formula: 0, or the number of the refusal among 2, 5 and 6.
 pub fn check(codes: &[u8], s0: &[u64], s1: &[u64], s2: &[u64], s3: &[u64]) -> u32
-    ensures { result ≡ checkOf (four s0.now s1.now s2.now s3.now) codes.now }
+    ensures { result ≡ check_of (four s0.now s1.now s2.now s3.now) codes.now }
 {
     let no = stores(s0, s1, s2, s3);
     if no != 0 {

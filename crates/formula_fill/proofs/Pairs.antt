@@ -6,44 +6,44 @@ use native.Mathlib.Decide.{ℕ_discrete, dec_lt}
 use native.Mathlib.Omega.{arith}
 use borrow.Author.Tests.{lt-ltb}
 use lib.ListN.{get_or}
-use Rattle.store.specs.Layout.{topMost, layerLen, cap, is_store, isCap}
+use Rattle.store.specs.Layout.{top_most, layer_len, cap, is_store, is_cap}
 use Rattle.store.specs.Word.{word}
 use Rattle.store.proofs.Words.{word_in, word_out}
-use Rattle.set_layers.specs.Calls.{layerPart}
-use Rattle.walk.proofs.Answers.{lent-words}
-use Rattle.formula_codes.specs.Codes.{codeKind, trees, tree_of}
-use Rattle.formula_codes.specs.Tree.{joined, four, nth, value, treeWord}
+use Rattle.set_layers.specs.Calls.{layer_part}
+use Rattle.walk.proofs.Answers.{lent_words}
+use Rattle.formula_codes.specs.Codes.{code_kind, trees, tree_of}
+use Rattle.formula_codes.specs.Tree.{joined, four, nth, value, tree_word}
 use Rattle.formula_codes.proofs.Accepted.{Accepted, Beside}
 use Rattle.formula_word.proofs.Arms.{three}
-use Rattle.formula_ask.specs.Calls.{formulaWords}
-use Rattle.formula_pair.specs.Pair.{pairWords}
-use Rattle.formula_pair.proofs.Pairs.{three-parts}
+use Rattle.formula_ask.specs.Calls.{formula_words}
+use Rattle.formula_pair.specs.Pair.{pair_words}
+use Rattle.formula_pair.proofs.Pairs.{three_parts}
 use Rattle.formula_pair_codes.specs.Pairs.{Pair}
 
 -- ---- the words of a slice
 
 -- of one that is not lent
 word_none : (N k i : ℕ) → word N [] k i ≡ 0
-word_none N k i = go (dec_lt i (layerLen N k))
+word_none N k i = go (dec_lt i (layer_len N k))
   where
-    go : Dec (i < layerLen N k) → word N [] k i ≡ 0
+    go : Dec (i < layer_len N k) → word N [] k i ≡ 0
     go (yes h) = word_in N [] k i h
     go (no h) = word_out N [] k i (omega arith)
 
 -- a slice beside store 0 has in its layers the words that the formula reads
-beside-words : {N : ℕ} (s : List ℕ) → Beside N s → (k i : ℕ) → k < topMost → get_or (layerPart s k) i 0 ≡ word N s k i
-unfolding layerPart is_store isCap
-beside-words {N} [] b k i h = sym (word_none N k i)
-beside-words (x ∷ s) b k i h =
+beside_words : {N : ℕ} (s : List ℕ) → Beside N s → (k i : ℕ) → k < top_most → get_or (layer_part s k) i 0 ≡ word N s k i
+unfolding layer_part is_store is_cap
+beside_words {N} [] b k i h = sym (word_none N k i)
+beside_words (x ∷ s) b k i h =
     let z = b.lent (λ e. omega (arith, e)) in
-    sym (three-parts (x ∷ s) refl refl refl k i h) ∙ lent-words z refl refl refl k i h
+    sym (three_parts (x ∷ s) refl refl refl k i h) ∙ lent_words z refl refl refl k i h
 
 -- ---- the words of a pair
 
-pair-tree : (ss : List (List ℕ)) (cs : List ℕ) (N k i : ℕ) → Pair cs
-    → treeWord N ss (tree_of cs) k i ≡ joined (get_or cs 2 0) k (word N (nth ss (get_or cs 0 0)) k i) (word N (nth ss (get_or cs 1 0)) k i)
-unfolding treeWord tree_of trees codeKind value
-pair-tree ss cs N k i p = ap (λ (x : List ℕ). treeWord N ss (tree_of x) k i) (three cs p.three) ∙ go (ℕ_discrete e 16) (ℕ_discrete e 17)
+pair_tree : (ss : List (List ℕ)) (cs : List ℕ) (N k i : ℕ) → Pair cs
+    → tree_word N ss (tree_of cs) k i ≡ joined (get_or cs 2 0) k (word N (nth ss (get_or cs 0 0)) k i) (word N (nth ss (get_or cs 1 0)) k i)
+unfolding tree_word tree_of trees code_kind value
+pair_tree ss cs N k i p = ap (λ (x : List ℕ). tree_word N ss (tree_of x) k i) (three cs p.three) ∙ go (ℕ_discrete e 16) (ℕ_discrete e 17)
   where
     c : ℕ
     c = get_or cs 0 0
@@ -54,17 +54,17 @@ pair-tree ss cs N k i p = ap (λ (x : List ℕ). treeWord N ss (tree_of x) k i) 
     e : ℕ
     e = get_or cs 2 0
 
-    go : Dec (e ≡ 16) → Dec (e ≡ 17) → treeWord N ss (tree_of (c ∷ d ∷ e ∷ [])) k i ≡ joined e k (word N (nth ss c) k i) (word N (nth ss d) k i)
+    go : Dec (e ≡ 16) → Dec (e ≡ 17) → tree_word N ss (tree_of (c ∷ d ∷ e ∷ [])) k i ≡ joined e k (word N (nth ss c) k i) (word N (nth ss d) k i)
     go (yes q) o = rw (lt-ltb c 4 p.first, lt-ltb d 4 p.second, q)
     go (no n) (yes q) = rw (lt-ltb c 4 p.first, lt-ltb d 4 p.second, q)
     go (no n) (no o) = let q : e ≡ 18 = omega (arith, p.joins, p.known) in rw (lt-ltb c 4 p.first, lt-ltb d 4 p.second, q)
 
 -- where nothing is refused, the words of the two stores, joined, are the formula's
-pub pair-words : (a b c d cs : List ℕ) → Accepted a b c d cs → Pair cs → (k i : ℕ) → k < topMost
-    → pairWords (get_or cs 2 0) (nth (four a b c d) (get_or cs 0 0)) (nth (four a b c d) (get_or cs 1 0)) k i ≡ formulaWords (four a b c d) cs k i
-pair-words a b c d cs g p k i h =
+pub pair_words_lem : (a b c d cs : List ℕ) → Accepted a b c d cs → Pair cs → (k i : ℕ) → k < top_most
+    → pair_words (get_or cs 2 0) (nth (four a b c d) (get_or cs 0 0)) (nth (four a b c d) (get_or cs 1 0)) k i ≡ formula_words (four a b c d) cs k i
+pair_words_lem a b c d cs g p k i h =
     let ss = four a b c d in
     ap₂ (joined (get_or cs 2 0) k)
-    (beside-words (nth ss (get_or cs 0 0)) (g.beside (get_or cs 0 0)) k i h)
-    (beside-words (nth ss (get_or cs 1 0)) (g.beside (get_or cs 1 0)) k i h)
-    ∙ sym (pair-tree ss cs (cap a) k i p)
+    (beside_words (nth ss (get_or cs 0 0)) (g.beside (get_or cs 0 0)) k i h)
+    (beside_words (nth ss (get_or cs 1 0)) (g.beside (get_or cs 1 0)) k i h)
+    ∙ sym (pair_tree ss cs (cap a) k i p)

@@ -1,13 +1,13 @@
 // Many members of a formula in one call: what that many calls of `formula_walk::next` do, with the tests made once.
 ghost use Rattle.std.specs.Prelude.{length};
 ghost use Rattle.util.specs.Outcome.{Settled};
-ghost use Rattle.store.specs.Layout.{topMost};
+ghost use Rattle.store.specs.Layout.{top_most};
 ghost use Rattle.walk.specs.Calls.{Fine};
 ghost use Rattle.walk.specs.Steps.{Sinks};
-ghost use Rattle.walk_fill.specs.Fill.{fillFrom, batchPaper, filled};
+ghost use Rattle.walk_fill.specs.Fill.{fill_from, batch_paper, filled};
 ghost use Rattle.formula_codes.specs.Tree.{four};
-ghost use Rattle.formula_word.specs.Machine.{machineWord};
-ghost use Rattle.formula_fill.specs.Calls.{formulaFillOf};
+ghost use Rattle.formula_word.specs.Machine.{machine_word};
+ghost use Rattle.formula_fill.specs.Calls.{formula_fill_of};
 
 use walk::{Cursor, Sunk};
 use walk_fill::{Batch, Stop};
@@ -25,8 +25,8 @@ fn sink(
     budget: u64,
 ) -> Sunk
     ensures { let ss = four s0.now s1.now s2.now s3.now in
-        let lw = machineWord n ss codes.now in
-        Sinks lw topMost budget spent c result }
+        let lw = machine_word n ss codes.now in
+        Sinks lw top_most budget spent c result }
 {
     let masks = c.masks;
     if masks[0] != 0 {
@@ -50,11 +50,11 @@ fn fill_in(
     budget: u64,
     out: &mut [u32],
 ) -> Batch
-    requires { Fine topMost from.prefix }
+    requires { Fine top_most from.prefix }
     ensures { let ss = four s0.now s1.now s2.now s3.now in
-        let lw = machineWord n ss codes.now in
+        let lw = machine_word n ss codes.now in
         let o = out.old in
-        Settled batchPaper (filled (fillFrom lw topMost (length o) budget from) o) result out.new }
+        Settled batch_paper (filled (fill_from lw top_most (length o) budget from) o) result out.new }
 {
     let mut c = from;
     let mut spent = 0u64;
@@ -85,7 +85,7 @@ pub fn fill(
     out: &mut [u32],
 ) -> Batch
     ensures { let ss = four s0.now s1.now s2.now s3.now in
-        Settled batchPaper (formulaFillOf ss codes.now c budget out.old) result out.new }
+        Settled batch_paper (formula_fill_of ss codes.now c budget out.old) result out.new }
 {
     let no = formula_codes::check(codes, s0, s1, s2, s3);
     if no != 0 {

@@ -13,26 +13,26 @@ use lib.Pow.{pow_pos}
 use Rattle.util.specs.Word.{bit}
 use Rattle.store.specs.Answer.{says}
 use Rattle.store.specs.Build.{build, room0, Kept}
-use Rattle.store.specs.Layout.{top, room, layerLen, cap}
+use Rattle.store.specs.Layout.{top, room, layer_len, cap}
 use Rattle.store.specs.Word.{on, anc, Member, Sound, Words64, SoundStore}
-use Rattle.store.proofs.Build.{on-build, build-fine}
-use Rattle.store.proofs.Geometry.{is-store, after-header}
+use Rattle.store.proofs.Build.{on-build, build_fine}
+use Rattle.store.proofs.Geometry.{is_store_lem, after-header}
 use Rattle.store.proofs.Members.{member-on, on-member, own}
-use Rattle.store.proofs.TopLayer.{top-low}
-use Rattle.formula_codes.specs.Check.{besideOf, sooner, stores_of, checkOf}
-use Rattle.formula_codes.specs.Codes.{codeKind, trees, tree_of, takesIn, left, isFormula}
+use Rattle.store.proofs.TopLayer.{top_low}
+use Rattle.formula_codes.specs.Check.{beside_of, sooner, stores_of, check_of}
+use Rattle.formula_codes.specs.Codes.{code_kind, trees, tree_of, takes_in, left, is_formula}
 use Rattle.formula_codes.specs.Tree.{four, nth}
-use Rattle.formula_ask.specs.Calls.{formulaIsEmptyOf}
+use Rattle.formula_ask.specs.Calls.{formula_is_empty_of}
 use Rattle.formula_laws.specs.Members.{Among}
 use Rattle.formula_laws.specs.Sides.{Sounds}
-use Rattle.formula_laws.proofs.Answers.{sounds, and-not-empty}
+use Rattle.formula_laws.proofs.Answers.{sounds, and_not_empty}
 
 -- the store of capacity 2 with this word in layer 0
 abbrev pair : ℕ → List ℕ
 pair w = build 2 (w ∷ [])
 
 module _ (w : ℕ) (h : w < 4) where
-  long : length (w ∷ []) ≡ layerLen 2 0
+  long : length (w ∷ []) ≡ layer_len 2 0
   unfolding room
   long = refl
 
@@ -41,10 +41,10 @@ module _ (w : ℕ) (h : w < 4) where
   kept (suc q) = pow_pos (room0 2 (suc q))
 
   fine : SoundStore 2 (pair w)
-  fine = build-fine 2 (w ∷ []) (omega arith) (omega arith) long kept
+  fine = build_fine 2 (w ∷ []) (omega arith) (omega arith) long kept
 
-  bit-pair : (i : ℕ) → i < 2 → on 2 (pair w) 0 i ≡ bit w i
-  bit-pair i l =
+  bit_pair : (i : ℕ) → i < 2 → on 2 (pair w) 0 i ≡ bit w i
+  bit_pair i l =
       let d : i / 64 ≡ 0 = omega arith in
       let m : i % 64 ≡ i = omega arith in
       on-build 2 (w ∷ []) long i ∙ ap₂ (λ (x y : ℕ). bit (get_or (w ∷ []) x 0) y) d m
@@ -52,50 +52,50 @@ module _ (w : ℕ) (h : w < 4) where
   lent : 0 < length (pair w)
   lent = omega (arith, fine.is.long, after-header 2 0)
 
-  held-is : (i : ℕ) → Member (pair w) i → (i < 2) × (bit w i ≡ 1)
-  held-is i m = let o = member-on fine.is.names m in (o.0, sym (bit-pair i o.0) ∙ o.1)
+  held_is : (i : ℕ) → Member (pair w) i → (i < 2) × (bit w i ≡ 1)
+  held_is i m = let o = member-on fine.is.names m in (o.0, sym (bit_pair i o.0) ∙ o.1)
 
 -- ids below 64 stand under the first place of every layer above layer 0
-first-place : (i k : ℕ) → i < 64 → anc i (suc k) ≡ 0
+first_place : (i k : ℕ) → i < 64 → anc i (suc k) ≡ 0
 unfolding anc
-first-place i zero h = omega arith
-first-place i (suc k) h = ap (λ (x : ℕ). x / 64) (first-place i k h)
+first_place i zero h = omega arith
+first_place i (suc k) h = ap (λ (x : ℕ). x / 64) (first_place i k h)
 
 abbrev ss : List (List ℕ)
 ss = four (pair 1) (pair 2) [] []
 
 -- the slices and the codes are accepted
-stores-ok : stores_of ss ≡ 0
-unfolding stores_of besideOf sooner
-stores-ok =
+stores_ok : stores_of ss ≡ 0
+unfolding stores_of beside_of sooner
+stores_ok =
     let f = fine 1 (omega arith) in
     let g = fine 2 (omega arith) in
-    rw (is-store f.is, is-store g.is, f.is.names, g.is.names, ne_eqb (length (pair 2)) 0 (omega (arith, lent 2 (omega arith))))
+    rw (is_store_lem f.is, is_store_lem g.is, f.is.names, g.is.names, ne_eqb (length (pair 2)) 0 (omega (arith, lent 2 (omega arith))))
 
 module _ (first : ltb 0 (length (pair 1)) ≡ true) (second : ltb 0 (length (pair 2)) ≡ true) where
-  left-ok : checkOf ss (0 ∷ []) ≡ 0
-  unfolding checkOf isFormula left takesIn codeKind
-  left-ok = rw (stores-ok, first)
+  left_ok : check_of ss (0 ∷ []) ≡ 0
+  unfolding check_of is_formula left takes_in code_kind
+  left_ok = rw (stores_ok, first)
 
-  right-ok : checkOf ss (1 ∷ []) ≡ 0
-  unfolding checkOf isFormula left takesIn codeKind
-  right-ok = rw (stores-ok, second)
+  right_ok : check_of ss (1 ∷ []) ≡ 0
+  unfolding check_of is_formula left takes_in code_kind
+  right_ok = rw (stores_ok, second)
 
-  both_ok : checkOf ss (0 ∷ 1 ∷ 16 ∷ []) ≡ 0
-  unfolding checkOf isFormula left takesIn codeKind
-  both_ok = rw (stores-ok, first, second)
+  both_ok : check_of ss (0 ∷ 1 ∷ 16 ∷ []) ≡ 0
+  unfolding check_of is_formula left takes_in code_kind
+  both_ok = rw (stores_ok, first, second)
 
-  says-no : formulaIsEmptyOf ss (0 ∷ 1 ∷ 16 ∷ []) ≡ says false tt
-  unfolding tree_of trees codeKind bit
-  says-no =
+  says_no : formula_is_empty_of ss (0 ∷ 1 ∷ 16 ∷ []) ≡ says false tt
+  unfolding tree_of trees code_kind bit
+  says_no =
       let f = fine 1 (omega arith) in
       let g = fine 2 (omega arith) in
       let t = top (cap (pair 1)) in
-      let up : t ≡ suc (t - 1) = omega (arith, top-low (cap (pair 1))) in
-      and-not-empty (pair 1) (pair 2) [] [] (0 ∷ []) (1 ∷ []) all_sound left-ok right-ok both_ok 0 1 (omega (arith, f.is.names)) (omega (arith, f.is.names))
-      (on-member f.is.names (omega arith) (bit-pair 1 (omega arith) 0 (omega arith)))
-      (on-member g.is.names (omega arith) (bit-pair 2 (omega arith) 1 (omega arith)))
-      (ap (anc 0) up ∙ first-place 0 (t - 1) (omega arith) ∙ sym (ap (anc 1) up ∙ first-place 1 (t - 1) (omega arith)))
+      let up : t ≡ suc (t - 1) = omega (arith, top_low (cap (pair 1))) in
+      and_not_empty (pair 1) (pair 2) [] [] (0 ∷ []) (1 ∷ []) all_sound left_ok right_ok both_ok 0 1 (omega (arith, f.is.names)) (omega (arith, f.is.names))
+      (on-member f.is.names (omega arith) (bit_pair 1 (omega arith) 0 (omega arith)))
+      (on-member g.is.names (omega arith) (bit_pair 2 (omega arith) 1 (omega arith)))
+      (ap (anc 0) up ∙ first_place 0 (t - 1) (omega arith) ∙ sym (ap (anc 1) up ∙ first_place 1 (t - 1) (omega arith)))
     where
       words : (x : ℕ) → Words64 (nth ss x)
       words zero = (fine 1 (omega arith)).words
@@ -114,16 +114,16 @@ module _ (first : ltb 0 (length (pair 1)) ≡ true) (second : ltb 0 (length (pai
       all_sound : Sounds (cap (pair 1)) ss
       all_sound = sounds (pair 1) (pair 2) [] [] (0 ∷ 1 ∷ 16 ∷ []) both_ok words sound
 
-none-shared : (i : ℕ) → Member (pair 1) i → Member (pair 2) i → ⊥
+none_shared : (i : ℕ) → Member (pair 1) i → Member (pair 2) i → ⊥
 unfolding bit
-none-shared zero m n = omega (arith, (held-is 2 (omega arith) 0 n).1)
-none-shared (suc zero) m n = omega (arith, (held-is 1 (omega arith) 1 m).1)
-none-shared (suc (suc i)) m n = omega (arith, (held-is 1 (omega arith) (suc (suc i)) m).0)
+none_shared zero m n = omega (arith, (held_is 2 (omega arith) 0 n).1)
+none_shared (suc zero) m n = omega (arith, (held_is 1 (omega arith) 1 m).1)
+none_shared (suc (suc i)) m n = omega (arith, (held_is 1 (omega arith) (suc (suc i)) m).0)
 
 -- "A formula's `is_empty` reads only its layer-3 word, as the crate's."
-pub apart-not-empty : (formulaIsEmptyOf ss (0 ∷ 1 ∷ 16 ∷ []) ≡ says false tt) × ((i : ℕ) → Among ss (tree_of (0 ∷ 1 ∷ 16 ∷ [])) i → ⊥)
-unfolding tree_of trees codeKind
-apart-not-empty = (
-  says-no (lt-ltb 0 (length (pair 1)) (lent 1 (omega arith))) (lt-ltb 0 (length (pair 2)) (lent 2 (omega arith))),
-  λ i m. none-shared i m.0 m.1,
+pub apart_not_empty : (formula_is_empty_of ss (0 ∷ 1 ∷ 16 ∷ []) ≡ says false tt) × ((i : ℕ) → Among ss (tree_of (0 ∷ 1 ∷ 16 ∷ [])) i → ⊥)
+unfolding tree_of trees code_kind
+apart_not_empty = (
+  says_no (lt-ltb 0 (length (pair 1)) (lent 1 (omega arith))) (lt-ltb 0 (length (pair 2)) (lent 2 (omega arith))),
+  λ i m. none_shared i m.0 m.1,
 )

@@ -16,25 +16,25 @@ use Rattle.walk.specs.declared.Next.TheVariants.{Paused}
 use Rattle.walk.specs.declared.Step.{Step}
 use Rattle.walk.proofs.Cursors.{fit_of}
 use Rattle.walk_laws.specs.Calls.{Ask, Some, Run, run_by, AllStopped, Nexts, Fills}
-use Rattle.walk_laws.specs.Under.{allIds, allReads}
+use Rattle.walk_laws.specs.Under.{all_ids, all_reads}
 use Rattle.walk_laws.specs.Walks.{Bounded, Full, Spaced, SpacedAs}
-use Rattle.walk_laws.proofs.Called.{calls-kept, calls-defined, calls-over, calls-spaced, calls-spaced-as}
-use Rattle.formula_codes.specs.Check.{checkOf}
-use Rattle.formula_codes.specs.Codes.{codeKind, tree_of}
+use Rattle.walk_laws.proofs.Called.{calls_kept, calls_defined, calls_over, calls_spaced, calls_spaced_as}
+use Rattle.formula_codes.specs.Check.{check_of}
+use Rattle.formula_codes.specs.Codes.{code_kind, tree_of}
 use Rattle.formula_codes.specs.Tree.{four, nth}
 use Rattle.formula_codes.proofs.Accepted.{accepted}
-use Rattle.formula_ask.specs.Calls.{formulaWords}
-use Rattle.formula_walk.specs.Calls.{formulaStartIn, refusalIn, formulaNextIn}
-use Rattle.formula_fill.specs.Calls.{formulaFillIn}
-use Rattle.formula_laws.specs.Members.{Among, formulaMembers}
+use Rattle.formula_ask.specs.Calls.{formula_words}
+use Rattle.formula_walk.specs.Calls.{formula_start_in, refusal_in, formula_next_in}
+use Rattle.formula_fill.specs.Calls.{formula_fill_in}
+use Rattle.formula_laws.specs.Members.{Among, formula_members}
 use Rattle.formula_laws.specs.Sides.{Sounds, UnionCodes}
-use Rattle.formula_laws.specs.Walks.{nextOver, fillOver, callOver, walkOver, reads_of, FormulaWalked}
-use Rattle.formula_laws.proofs.Fewer.{both-reads}
-use Rattle.formula_laws.proofs.Sets.{tree-ids, tree-members-are, tree-rises}
-use Rattle.formula_laws.proofs.Shapes.{tree-two, tree-union}
-use Rattle.formula_laws.proofs.Trees.{tree-bounded, union-full}
+use Rattle.formula_laws.specs.Walks.{next_over, fill_over, call_over, walk_over, reads_of, FormulaWalked}
+use Rattle.formula_laws.proofs.Fewer.{both_reads}
+use Rattle.formula_laws.proofs.Sets.{tree_ids, tree_members_are, tree_rises}
+use Rattle.formula_laws.proofs.Shapes.{tree_two, tree_union}
+use Rattle.formula_laws.proofs.Trees.{tree_bounded, union_full}
 
-module _ (a b c d cs : List ℕ) (ok : checkOf (four a b c d) cs ≡ 0) (z : Sounds (cap a) (four a b c d)) where
+module _ (a b c d cs : List ℕ) (ok : check_of (four a b c d) cs ≡ 0) (z : Sounds (cap a) (four a b c d)) where
   abbrev ss : List (List ℕ)
   ss = four a b c d
 
@@ -42,74 +42,74 @@ module _ (a b c d cs : List ℕ) (ok : checkOf (four a b c d) cs ≡ 0) (z : Sou
   t = top (cap a)
 
   abbrev lw : ℕ → ℕ → ℕ
-  lw = formulaWords ss cs
+  lw = formula_words ss cs
 
   bounded : Bounded lw
-  bounded = tree-bounded (cap a) ss (λ x. word_lt (cap a) (nth ss x) (z.words x)) (tree_of cs)
+  bounded = tree_bounded (cap a) ss (λ x. word_lt (cap a) (nth ss x) (z.words x)) (tree_of cs)
 
   -- no call refuses
-  none : (k : Cursor) → Fine t k.prefix → refusalIn ss cs k ≡ 0
-  unfolding refusalIn
+  none : (k : Cursor) → Fine t k.prefix → refusal_in ss cs k ≡ 0
+  unfolding refusal_in
   none k f = rw (ok, fit_of t k.prefix f)
 
-  next-is : Nexts lw t (nextOver ss cs)
-  unfolding formulaNextIn
-  next-is m k f = rw (none k f)
+  next_is : Nexts lw t (next_over ss cs)
+  unfolding formula_next_in
+  next_is m k f = rw (none k f)
 
-  fill_is : Fills lw t (fillOver ss cs)
-  unfolding formulaFillIn
+  fill_is : Fills lw t (fill_over ss cs)
+  unfolding formula_fill_in
   fill_is m n k f = rw (none k f)
 
-  start_is : (k : Cursor) → formulaStartIn ss cs k ≡ record { cursor = start_at t (lw t 0); reads = 1; answer = Paused }
-  unfolding formulaStartIn
+  start_is : (k : Cursor) → formula_start_in ss cs k ≡ record { cursor = start_at t (lw t 0); reads = 1; answer = Paused }
+  unfolding formula_start_in
   start_is k = rw ok
 
-  start-cursor : (k : Cursor) → (formulaStartIn ss cs k).cursor ≡ start_at t (lw t 0)
-  start-cursor k = ap (λ (x : Step). x.cursor) (start_is k)
+  start_cursor : (k : Cursor) → (formula_start_in ss cs k).cursor ≡ start_at t (lw t 0)
+  start_cursor k = ap (λ (x : Step). x.cursor) (start_is k)
 
   -- no call of a started walk refuses or reads past its budget, and a paused one has spent it
-  pub formula-kept : (k : Cursor) (l : List Ask) → AllStopped (callOver ss cs) l (formulaStartIn ss cs k).cursor
-  formula-kept k l =
-      subst (AllStopped (callOver ss cs) l) (sym (start-cursor k)) (calls-kept lw bounded t (nextOver ss cs) (fillOver ss cs) next-is fill_is l)
+  pub formula_kept : (k : Cursor) (l : List Ask) → AllStopped (call_over ss cs) l (formula_start_in ss cs k).cursor
+  formula_kept k l =
+      subst (AllStopped (call_over ss cs) l) (sym (start_cursor k)) (calls_kept lw bounded t (next_over ss cs) (fill_over ss cs) next_is fill_is l)
 
   -- what the definition hands out and counts is the members and the reads
-  walked-of : (k : Cursor) (w : Run) → (w.members ≡ allIds lw t) × (1 + w.total ≡ allReads lw t) → FormulaWalked ss cs k w
-  walked-of k w r =
-      let m : w.members ≡ formulaMembers (cap a) ss (tree_of cs) = r.0 ∙ tree-ids (cap a) ss (accepted a b c d cs ok).first.most z (tree_of cs) in
+  walked_of : (k : Cursor) (w : Run) → (w.members ≡ all_ids lw t) × (1 + w.total ≡ all_reads lw t) → FormulaWalked ss cs k w
+  walked_of k w r =
+      let m : w.members ≡ formula_members (cap a) ss (tree_of cs) = r.0 ∙ tree_ids (cap a) ss (accepted a b c d cs ok).first.most z (tree_of cs) in
       record {
         members-all = m;
         exact = λ i. subst (λ (l : List ℕ). Memᴰ i l ↔ ((i < cap a) × Among ss (tree_of cs) i)) (sym m)
-            (tree-members-are (cap a) ss (λ x. (accepted a b c d cs ok).beside x) (tree_of cs) i);
-        rising = subst (Rising 0) (sym m) (tree-rises (cap a) ss (tree_of cs));
+            (tree_members_are (cap a) ss (λ x. (accepted a b c d cs ok).beside x) (tree_of cs) i);
+        rising = subst (Rising 0) (sym m) (tree_rises (cap a) ss (tree_of cs));
         counted = ap (λ (x : Step). x.reads + w.total) (start_is k) ∙ r.1;
       }
 
   -- A WALK of a formula that ends, however it is cut into calls of next and of fill
-  pub formula-walked : (k : Cursor) (l : List Ask) → (walkOver ss cs k l).over ≡ true → FormulaWalked ss cs k (walkOver ss cs k l)
-  formula-walked k l e =
-      let w = ap (λ (x : Cursor). run_by (callOver ss cs) x l) (start-cursor k) in
-      let d = calls-defined lw bounded t (nextOver ss cs) (fillOver ss cs) next-is fill_is l (sym (ap (λ (x : Run). x.over) w) ∙ e) in
-      subst (FormulaWalked ss cs k) (sym w) (walked-of k _ d)
+  pub formula_walked : (k : Cursor) (l : List Ask) → (walk_over ss cs k l).over ≡ true → FormulaWalked ss cs k (walk_over ss cs k l)
+  formula_walked k l e =
+      let w = ap (λ (x : Cursor). run_by (call_over ss cs) x l) (start_cursor k) in
+      let d = calls_defined lw bounded t (next_over ss cs) (fill_over ss cs) next_is fill_is l (sym (ap (λ (x : Run). x.over) w) ∙ e) in
+      subst (FormulaWalked ss cs k) (sym w) (walked_of k _ d)
 
   -- and enough calls end it
-  pub formula-over : (k : Cursor) (l : List Ask) → Some l → allReads lw t + length (allIds lw t) ≤ length l → (walkOver ss cs k l).over ≡ true
-  formula-over k l some h =
-      ap (λ (x : Cursor). (run_by (callOver ss cs) x l).over) (start-cursor k)
-      ∙ calls-over lw bounded t (nextOver ss cs) (fillOver ss cs) next-is fill_is l some h
+  pub formula_over : (k : Cursor) (l : List Ask) → Some l → all_reads lw t + length (all_ids lw t) ≤ length l → (walk_over ss cs k l).over ≡ true
+  formula_over k l some h =
+      ap (λ (x : Cursor). (run_by (call_over ss cs) x l).over) (start_cursor k)
+      ∙ calls_over lw bounded t (next_over ss cs) (fill_over ss cs) next_is fill_is l some h
 
   -- ON ONE STORE OR A UNION OF STORES at most three words are read before each next member, after the top word, and none before the end.
   full : UnionCodes cs → Full lw t
-  full u = union-full (cap a) ss z.sound (tree_of cs) (tree-union ss cs (accepted a b c d cs ok).formula u)
+  full u = union_full (cap a) ss z.sound (tree_of cs) (tree_union ss cs (accepted a b c d cs ok).formula u)
 
-  pub formula-spaced : UnionCodes cs → (k : Cursor) (bs : List ℕ) → Spaced t (nextOver ss cs) bs (formulaStartIn ss cs k).cursor 0
-  formula-spaced u k bs =
-      subst (λ (x : Cursor). Spaced t (nextOver ss cs) bs x 0) (sym (start-cursor k)) (calls-spaced lw bounded t (nextOver ss cs) next-is (full u) bs)
+  pub formula_spaced : UnionCodes cs → (k : Cursor) (bs : List ℕ) → Spaced t (next_over ss cs) bs (formula_start_in ss cs k).cursor 0
+  formula_spaced u k bs =
+      subst (λ (x : Cursor). Spaced t (next_over ss cs) bs x 0) (sym (start_cursor k)) (calls_spaced lw bounded t (next_over ss cs) next_is (full u) bs)
 
   -- the same of next and fill in any mix
-  pub formula-fill-spaced : UnionCodes cs → (k : Cursor) (l : List Ask) → SpacedAs t (nextOver ss cs) (fillOver ss cs) l (formulaStartIn ss cs k).cursor
-  formula-fill-spaced u k l =
-      subst (SpacedAs t (nextOver ss cs) (fillOver ss cs) l) (sym (start-cursor k))
-      (calls-spaced-as lw bounded t (nextOver ss cs) (fillOver ss cs) next-is fill_is (full u) l)
+  pub formula_fill_spaced : UnionCodes cs → (k : Cursor) (l : List Ask) → SpacedAs t (next_over ss cs) (fill_over ss cs) l (formula_start_in ss cs k).cursor
+  formula_fill_spaced u k l =
+      subst (SpacedAs t (next_over ss cs) (fill_over ss cs) l) (sym (start_cursor k))
+      (calls_spaced_as lw bounded t (next_over ss cs) (fill_over ss cs) next_is fill_is (full u) l)
 
 -- AN INTERSECTION reads no more than either side alone, for any two formulas on the sides: the walks of both sides and of the intersection to
 -- their ends, each cut as it may be.
@@ -120,16 +120,16 @@ module _ (a b c d f g : List ℕ) (z : Sounds (cap a) (four a b c d)) where
   abbrev fg : List ℕ
   fg = f ++ (g ++ 16 ∷ [])
 
-  module _ (left : checkOf qs f ≡ 0) (right : checkOf qs g ≡ 0) (ok : checkOf qs fg ≡ 0) (k m : Cursor) (bs ls : List Ask) (ends : (walkOver qs fg k bs).over ≡ true) where
-    fewer : (allReads (formulaWords qs fg) (top (cap a)) ≤ allReads (formulaWords qs f) (top (cap a)))
-        × (allReads (formulaWords qs fg) (top (cap a)) ≤ allReads (formulaWords qs g) (top (cap a)))
-    unfolding codeKind
-    fewer = rw (tree-two qs f g 16 (accepted a b c d f left).formula (accepted a b c d g right).formula) (both-reads (cap a) qs (tree_of f) (tree_of g))
+  module _ (left : check_of qs f ≡ 0) (right : check_of qs g ≡ 0) (ok : check_of qs fg ≡ 0) (k m : Cursor) (bs ls : List Ask) (ends : (walk_over qs fg k bs).over ≡ true) where
+    fewer : (all_reads (formula_words qs fg) (top (cap a)) ≤ all_reads (formula_words qs f) (top (cap a)))
+        × (all_reads (formula_words qs fg) (top (cap a)) ≤ all_reads (formula_words qs g) (top (cap a)))
+    unfolding code_kind
+    fewer = rw (tree_two qs f g 16 (accepted a b c d f left).formula (accepted a b c d g right).formula) (both_reads (cap a) qs (tree_of f) (tree_of g))
 
-    pub and-reads-left : (walkOver qs f m ls).over ≡ true → reads_of qs fg k (walkOver qs fg k bs) ≤ reads_of qs f m (walkOver qs f m ls)
-    and-reads-left e =
-        omega (arith, fewer.0, (formula-walked a b c d fg ok z k bs ends).counted, (formula-walked a b c d f left z m ls e).counted)
+    pub and_reads_left : (walk_over qs f m ls).over ≡ true → reads_of qs fg k (walk_over qs fg k bs) ≤ reads_of qs f m (walk_over qs f m ls)
+    and_reads_left e =
+        omega (arith, fewer.0, (formula_walked a b c d fg ok z k bs ends).counted, (formula_walked a b c d f left z m ls e).counted)
 
-    pub and-reads-right : (walkOver qs g m ls).over ≡ true → reads_of qs fg k (walkOver qs fg k bs) ≤ reads_of qs g m (walkOver qs g m ls)
-    and-reads-right e =
-        omega (arith, fewer.1, (formula-walked a b c d fg ok z k bs ends).counted, (formula-walked a b c d g right z m ls e).counted)
+    pub and_reads_right : (walk_over qs g m ls).over ≡ true → reads_of qs fg k (walk_over qs fg k bs) ≤ reads_of qs g m (walk_over qs g m ls)
+    and_reads_right e =
+        omega (arith, fewer.1, (formula_walked a b c d fg ok z k bs ends).counted, (formula_walked a b c d g right z m ls e).counted)

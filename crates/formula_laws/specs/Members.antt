@@ -16,14 +16,14 @@ Among ss (inverse a) i = Among ss a i → ⊥
 Among ss every i = Unit {0}
 
 -- the same as a number, 1 or 0, over stores of capacity N
-unfoldable pub heldBy : ℕ → List (List ℕ) → Tree → ℕ → ℕ
-heldBy N ss (store c) i = on N (nth ss c) 0 i
-heldBy N ss (both a b) i = min (heldBy N ss a i) (heldBy N ss b i)
-heldBy N ss (either a b) i = max (heldBy N ss a i) (heldBy N ss b i)
-heldBy N ss (one_of a b) i = differ (heldBy N ss a i) (heldBy N ss b i)
-heldBy N ss (inverse a) i = 1 - heldBy N ss a i
-heldBy N ss every i = 1
+unfoldable pub held_by : ℕ → List (List ℕ) → Tree → ℕ → ℕ
+held_by N ss (store c) i = on N (nth ss c) 0 i
+held_by N ss (both a b) i = min (held_by N ss a i) (held_by N ss b i)
+held_by N ss (either a b) i = max (held_by N ss a i) (held_by N ss b i)
+held_by N ss (one_of a b) i = differ (held_by N ss a i) (held_by N ss b i)
+held_by N ss (inverse a) i = 1 - held_by N ss a i
+held_by N ss every i = 1
 
 -- the members, ascending
-abbrev pub formulaMembers : ℕ → List (List ℕ) → Tree → List ℕ
-formulaMembers N ss e = places (heldBy N ss e) 0 N
+abbrev pub formula_members : ℕ → List (List ℕ) → Tree → List ℕ
+formula_members N ss e = places (held_by N ss e) 0 N

@@ -1,12 +1,12 @@
 // Many members of two stores joined by one code: the commonest formula, walked over the layers of the two stores with no look at its codes.
 ghost use Rattle.std.specs.Prelude.{[], ◌∷◌, ◌≡◌, ℕ, ◌+◌, ◌<◌, length, get_or};
 ghost use Rattle.util.specs.Outcome.{Settled};
-ghost use Rattle.store.specs.Layout.{topMost};
+ghost use Rattle.store.specs.Layout.{top_most};
 ghost use Rattle.walk.specs.Calls.{Fine};
 ghost use Rattle.walk.specs.Steps.{Lowers, Sinks};
-ghost use Rattle.walk_fill.specs.Fill.{fillFrom, batchPaper, filled};
+ghost use Rattle.walk_fill.specs.Fill.{fill_from, batch_paper, filled};
 ghost use Rattle.formula_codes.specs.Tree.{joined};
-ghost use Rattle.formula_pair.specs.Pair.{joinedParts, pairWords, filledWords};
+ghost use Rattle.formula_pair.specs.Pair.{joined_parts, pair_words, filled_words};
 ghost use Rattle.formula_pair.specs.Steps.{Stepped};
 
 use walk::{Cursor, Sunk};
@@ -14,8 +14,8 @@ use walk_fill::{Batch, Stop};
 
 // The words below the lowest bit of the layer above layer j are read and joined.
 fn read(c: Cursor, code: u8, a: &[u64], b: &[u64], j: usize) -> Cursor
-    requires { (j < topMost) × (0 < get_or c.masks (j + 1) 0) }
-    ensures { Lowers (λ (k i : ℕ). joined code k (get_or a.now i 0) (get_or b.now i 0)) topMost j c result }
+    requires { (j < top_most) × (0 < get_or c.masks (j + 1) 0) }
+    ensures { Lowers (λ (k i : ℕ). joined code k (get_or a.now i 0) (get_or b.now i 0)) top_most j c result }
 {
     let q = c.place(j + 1);
     let w = formula_codes::joined(code, j, store::get(a, q), store::get(b, q));
@@ -43,7 +43,7 @@ fn down(
 ) -> Sunk
     ensures { let ls = a0.now ∷ a1.now ∷ a2.now ∷ [] in
         let ms = b0.now ∷ b1.now ∷ b2.now ∷ [] in
-        Stepped (joinedParts code ls ms) topMost c result }
+        Stepped (joined_parts code ls ms) top_most c result }
 {
     let masks = c.masks;
     if masks[0] != 0 {
@@ -76,7 +76,7 @@ fn sink(
 ) -> Sunk
     ensures { let ls = a0.now ∷ a1.now ∷ a2.now ∷ [] in
         let ms = b0.now ∷ b1.now ∷ b2.now ∷ [] in
-        Sinks (joinedParts code ls ms) topMost budget spent from result }
+        Sinks (joined_parts code ls ms) top_most budget spent from result }
 {
     let masks = from.masks;
     if masks[0] != 0 {
@@ -111,11 +111,11 @@ fn fill_in(
     budget: u64,
     out: &mut [u32],
 ) -> Batch
-    requires { Fine topMost from.prefix }
+    requires { Fine top_most from.prefix }
     ensures { let ls = a0.now ∷ a1.now ∷ a2.now ∷ [] in
         let ms = b0.now ∷ b1.now ∷ b2.now ∷ [] in
         let o = out.old in
-        Settled batchPaper (filled (fillFrom (joinedParts code ls ms) topMost (length o) budget from) o) result out.new }
+        Settled batch_paper (filled (fill_from (joined_parts code ls ms) top_most (length o) budget from) o) result out.new }
 {
     let mut c = from;
     let mut spent = 0u64;
@@ -144,8 +144,8 @@ pub fn fill(
     budget: u64,
     out: &mut [u32],
 ) -> Batch
-    ensures { let lw = pairWords code a.now b.now in
-        Settled batchPaper (filledWords lw n c budget out.old) result out.new }
+    ensures { let lw = pair_words code a.now b.now in
+        Settled batch_paper (filled_words lw n c budget out.old) result out.new }
 {
     let no = c.refusal(n);
     if no != 0 {

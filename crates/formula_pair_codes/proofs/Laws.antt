@@ -7,12 +7,12 @@ use borrow.Author.Tests.{lt-ltb, le-leb, eq-eqb, leb-true, ltb-true, eqb-true}
 use lib.Dec.{leb, ltb, eqb}
 use lib.ListN.{length, get_or}
 use Rattle.util.proofs.Same.{both}
-use Rattle.formula_pair_codes.specs.Pairs.{isPair, Pair}
+use Rattle.formula_pair_codes.specs.Pairs.{is_pair, Pair}
 
 module _ (cs : List ℕ) where
   -- the codes that pass the test are a pair, and no others are
-  pub pair_of : isPair cs ≡ true → Pair cs
-  unfolding isPair
+  pub pair_of : is_pair cs ≡ true → Pair cs
+  unfolding is_pair
   pair_of e =
       let known = ltb (get_or cs 2 0) 19 in
       let third = leb 16 (get_or cs 2 0) && known in
@@ -29,14 +29,14 @@ module _ (cs : List ℕ) where
         known = ltb-true (get_or cs 2 0) 19 d.1;
       }
 
-  pub no-pair : (Pair cs → ⊥) → false ≡ isPair cs
-  no-pair h = go (isPair cs) refl
+  pub no_pair : (Pair cs → ⊥) → false ≡ is_pair cs
+  no_pair h = go (is_pair cs) refl
     where
-      go : (x : Bool) → isPair cs ≡ x → false ≡ isPair cs
+      go : (x : Bool) → is_pair cs ≡ x → false ≡ is_pair cs
       go true e = absurd (h (pair_of e))
       go false e = sym e
 
   -- the last test decides
-  pub pair-last : length cs ≡ 3 → get_or cs 0 0 < 4 → get_or cs 1 0 < 4 → 16 ≤ get_or cs 2 0 → ltb (get_or cs 2 0) 19 ≡ isPair cs
-  unfolding isPair
-  pair-last n a b c = sym (rw (eq-eqb (length cs) 3 n, lt-ltb (get_or cs 0 0) 4 a, lt-ltb (get_or cs 1 0) 4 b, le-leb 16 (get_or cs 2 0) c))
+  pub pair_last : length cs ≡ 3 → get_or cs 0 0 < 4 → get_or cs 1 0 < 4 → 16 ≤ get_or cs 2 0 → ltb (get_or cs 2 0) 19 ≡ is_pair cs
+  unfolding is_pair
+  pair_last n a b c = sym (rw (eq-eqb (length cs) 3 n, lt-ltb (get_or cs 0 0) 4 a, lt-ltb (get_or cs 1 0) 4 b, le-leb 16 (get_or cs 2 0) c))

@@ -2,17 +2,17 @@
 // no reference can stand for one of several that are lent for different times.
 ghost use Rattle.std.specs.Prelude.{◌≡◌, ◌%◌, get_or};
 ghost use Rattle.util.specs.Outcome.{Settled};
-ghost use Rattle.walk_fill.specs.Fill.{batchPaper};
+ghost use Rattle.walk_fill.specs.Fill.{batch_paper};
 ghost use Rattle.formula_codes.specs.Tree.{four, nth};
-ghost use Rattle.formula_pair.specs.Pair.{pairWords, filledWords};
-ghost use Rattle.formula_pair_codes.specs.Pairs.{isPair, namedWords};
+ghost use Rattle.formula_pair.specs.Pair.{pair_words, filled_words};
+ghost use Rattle.formula_pair_codes.specs.Pairs.{is_pair, named_words};
 
 use walk::Cursor;
 use walk_fill::Batch;
 
 // Whether the codes are two stores and what joins them.
 pub fn is_pair(codes: &[u8]) -> bool
-    ensures { result ≡ isPair codes.now }
+    ensures { result ≡ is_pair codes.now }
 {
     if codes.len() != 3 {
         return false;
@@ -44,8 +44,8 @@ fn fill_with(
     out: &mut [u32],
 ) -> Batch
     ensures { let y = nth (four s0.now s1.now s2.now s3.now) (second % 4) in
-        let lw = pairWords last x.now y in
-        Settled batchPaper (filledWords lw n c budget out.old) result out.new }
+        let lw = pair_words last x.now y in
+        Settled batch_paper (filled_words lw n c budget out.old) result out.new }
 {
     match second % 4 {
         0 => formula_pair::fill(c, last, n, x, s0, budget, out),
@@ -76,8 +76,8 @@ pub fn fill(
     out: &mut [u32],
 ) -> Batch
     ensures { let ss = four s0.now s1.now s2.now s3.now in
-        let lw = namedWords ss codes.now in
-        Settled batchPaper (filledWords lw n c budget out.old) result out.new }
+        let lw = named_words ss codes.now in
+        Settled batch_paper (filled_words lw n c budget out.old) result out.new }
 {
     let last = code_at(codes, 2);
     let second = code_at(codes, 1);

@@ -6,9 +6,9 @@ use Rattle.store.specs.Layout.{end_of}
 unfoldable pub words_in : ℕ → ℕ → ℕ
 words_in N k = end_of N k - end_of N (suc k)
 
-unfoldable pub placesIn : ℕ → ℕ → ℕ
-placesIn N zero = N
-placesIn N (suc k) = words_in N k
+unfoldable pub places_in : ℕ → ℕ → ℕ
+places_in N zero = N
+places_in N (suc k) = words_in N k
 
 -- where word i of layer k stands in a store; past the layer's end, where the store ends
 unfoldable pub place_of : ℕ → ℕ → ℕ → ℕ

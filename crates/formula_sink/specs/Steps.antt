@@ -1,8 +1,8 @@
 -- What a step finds.
 use Rattle.std.specs.Prelude.{false, ◌≡◌, ℕ, suc, ◌%◌, ◌<◌, get_or}
-use Rattle.store.specs.Layout.{topMost}
-use Rattle.walk.specs.Steps.{isReading}
-use Rattle.walk.specs.Walk.{lowLayer, kind, firstBit, placeAt}
+use Rattle.store.specs.Layout.{top_most}
+use Rattle.walk.specs.Steps.{is_reading}
+use Rattle.walk.specs.Walk.{low_layer, kind, first_bit, place_at}
 use Rattle.walk.specs.declared.Cursor.{Cursor}
 use Rattle.formula_place.specs.Spots.{place_of}
 use Rattle.formula_sink.specs.declared.Spot.{Spot}
@@ -11,13 +11,13 @@ use Rattle.formula_sink.specs.declared.Want.TheVariants.{Word, Nothing}
 
 -- the word below the lowest bit of the lowest layer, and where it stands in stores of capacity n
 pub record Spotted (n : ℕ) (c : Cursor) (p : Spot) : Type 0 where
-  pub low : lowLayer topMost c ≡ suc p.layer
-  pub small : p.layer < topMost
+  pub low : low_layer top_most c ≡ suc p.layer
+  pub small : p.layer < top_most
   pub some : 0 < get_or c.masks (suc p.layer) 0
-  pub placed : (p.index ≡ placeAt topMost c (suc p.layer)) × (0 < get_or c.masks (suc p.layer) 0 → firstBit c (suc p.layer) < 64)
-  pub stands : p.at ≡ place_of n (p.layer % suc topMost) p.index
+  pub placed : (p.index ≡ place_at top_most c (suc p.layer)) × (0 < get_or c.masks (suc p.layer) 0 → first_bit c (suc p.layer) < 64)
+  pub stands : p.at ≡ place_of n (p.layer % suc top_most) p.index
 
 -- the same where a word has to be read, and nothing where none has
 abbrev pub Wanted : ℕ → Cursor → Want → Type 0
 Wanted n c (Word p) = Spotted n c p
-Wanted n c Nothing = isReading (kind topMost c) ≡ false
+Wanted n c Nothing = is_reading (kind top_most c) ≡ false

@@ -1,11 +1,11 @@
 // The descent of a walk over a formula: words are read until none is wanted or the budget is spent. A formula word counts one read.
 ghost use Rattle.std.specs.Prelude.{◌≡◌, ◌+◌, ◌-◌, ◌<◌, get_or};
-ghost use Rattle.store.specs.Layout.{topMost};
+ghost use Rattle.store.specs.Layout.{top_most};
 ghost use Rattle.walk.specs.Steps.{Lowers, Sinks};
-ghost use Rattle.walk.specs.Walk.{lowLayer, handled};
-ghost use Rattle.formula_codes.specs.Codes.{cutsIn};
+ghost use Rattle.walk.specs.Walk.{low_layer, handled};
+ghost use Rattle.formula_codes.specs.Codes.{cuts_in};
 ghost use Rattle.formula_codes.specs.Tree.{four};
-ghost use Rattle.formula_word.specs.Machine.{machineWord};
+ghost use Rattle.formula_word.specs.Machine.{machine_word};
 ghost use Rattle.formula_sink.specs.Steps.{Spotted, Wanted};
 
 use walk::{Cursor, Sunk};
@@ -26,7 +26,7 @@ enum Want {
 
 // The word of layer k that has to be read, in stores of capacity n.
 fn below(c: Cursor, k: usize, n: usize) -> Want
-    requires { (k < topMost) × (lowLayer topMost c ≡ k + 1) × (0 < get_or c.masks (k + 1) 0) }
+    requires { (k < top_most) × (low_layer top_most c ≡ k + 1) × (0 < get_or c.masks (k + 1) 0) }
     ensures { Wanted n c result }
 {
     let q = c.place(k + 1);
@@ -59,8 +59,8 @@ fn wanted(c: Cursor, n: usize) -> Want
 
 // The word is taken into the cursor, in the same way.
 fn lower(c: Cursor, j: usize, w: u64) -> Cursor
-    requires { j < topMost }
-    ensures { result ≡ handled topMost j w c }
+    requires { j < top_most }
+    ensures { result ≡ handled top_most j w c }
 {
     if j == 0 {
         return c.handle_level(0, w);
@@ -83,9 +83,9 @@ fn read(
     s2: &[u64],
     s3: &[u64],
 ) -> Cursor
-    requires { (Spotted n c p) × (cuts ≡ cutsIn codes.now) }
+    requires { (Spotted n c p) × (cuts ≡ cuts_in codes.now) }
     ensures { let ss = four s0.now s1.now s2.now s3.now in
-        Lowers (machineWord n ss codes.now) topMost (lowLayer topMost c - 1) c result }
+        Lowers (machine_word n ss codes.now) top_most (low_layer top_most c - 1) c result }
 {
     let x = formula_place::cut(cuts, n, p.layer, p.index);
     let w = formula_word::word_at(codes, p.layer, x, p.at, s0, s1, s2, s3);
@@ -105,7 +105,7 @@ pub fn sink(
     budget: u64,
 ) -> Sunk
     ensures { let ss = four s0.now s1.now s2.now s3.now in
-        Sinks (machineWord n ss codes.now) topMost budget spent from result }
+        Sinks (machine_word n ss codes.now) top_most budget spent from result }
 {
     let cuts = formula_codes::cuts(codes);
     let mut c = from;

@@ -10,9 +10,9 @@ use lib.Bits.{bit_and}
 use lib.ListN.{length, get_or, set, drop, drop_of_length-le, length-set}
 use lib.Seq.{drop-cons, get_or-set_same, get_or-set_other}
 use Rattle.util.specs.Word.{flip}
-use Rattle.formula_codes.specs.Codes.{codeKind}
-use Rattle.formula_codes.specs.Tree.{joined, notIn}
-use Rattle.formula_codes.proofs.Turns.{kind-store, kind-unknown}
+use Rattle.formula_codes.specs.Codes.{code_kind}
+use Rattle.formula_codes.specs.Tree.{joined, not_in}
+use Rattle.formula_codes.proofs.Turns.{kind_store, kind_unknown}
 use Rattle.formula_word.specs.Machine.{Stack, made_of, moves, stepped, evaluated, begun}
 use Rattle.formula_word.specs.Steps.{JoinsTwo, Joins, Turned, Evaluating}
 use Rattle.formula_word.specs.declared.Turn.{Turn}
@@ -20,65 +20,65 @@ use Rattle.formula_word.specs.declared.Turn.{Turn}
 -- ---- what a code makes
 
 module _ (c w k cut a b : ℕ) where
-  pub made-store : c < 4 → w ≡ made_of (codeKind c) w k cut a b
+  pub made_store : c < 4 → w ≡ made_of (code_kind c) w k cut a b
   unfolding made_of
-  made-store h = sym (rw (kind-store c h))
+  made_store h = sym (rw (kind_store c h))
 
   -- a code that joins two looks at nothing else
-  pub made-joined : {r : ℕ} → 16 ≤ c → c < 19 → r ≡ joined c k a b → r ≡ made_of (codeKind c) w k cut a b
-  unfolding made_of codeKind joined
-  made-joined h l r = r ∙ go (ℕ_discrete c 16) (ℕ_discrete c 17)
+  pub made_joined : {r : ℕ} → 16 ≤ c → c < 19 → r ≡ joined c k a b → r ≡ made_of (code_kind c) w k cut a b
+  unfolding made_of code_kind joined
+  made_joined h l r = r ∙ go (ℕ_discrete c 16) (ℕ_discrete c 17)
     where
-      go : Dec (c ≡ 16) → Dec (c ≡ 17) → joined c k a b ≡ made_of (codeKind c) w k cut a b
+      go : Dec (c ≡ 16) → Dec (c ≡ 17) → joined c k a b ≡ made_of (code_kind c) w k cut a b
       go (yes e) d = rw e
       go (no n) (yes e) = rw e
       go (no n) (no o) = let e : c ≡ 18 = omega arith in rw e
 
-  pub made_all : c ≡ 20 → cut ≡ made_of (codeKind c) w k cut a b
-  unfolding made_of codeKind
+  pub made_all : c ≡ 20 → cut ≡ made_of (code_kind c) w k cut a b
+  unfolding made_of code_kind
   made_all e = sym (rw e)
 
-  pub made-not : c ≡ 19 → k ≡ 0 → bit_and cut (flip b) ≡ made_of (codeKind c) w k cut a b
-  unfolding made_of codeKind notIn
-  made-not e z = sym (rw (e, z))
+  pub made_not : c ≡ 19 → k ≡ 0 → bit_and cut (flip b) ≡ made_of (code_kind c) w k cut a b
+  unfolding made_of code_kind not_in
+  made_not e z = sym (rw (e, z))
 
-  pub made-last : 4 ≤ c → (c < 16) ⊎ (19 ≤ c) → c ≢ 19 → c ≢ 20 → b ≡ made_of (codeKind c) w k cut a b
+  pub made_last : 4 ≤ c → (c < 16) ⊎ (19 ≤ c) → c ≢ 19 → c ≢ 20 → b ≡ made_of (code_kind c) w k cut a b
   unfolding made_of
-  made-last h o n19 n20 = sym (rw (kind-unknown c h o n19 n20))
+  made_last h o n19 n20 = sym (rw (kind_unknown c h o n19 n20))
 
 -- not above layer 0
-pub made-not-above : (c w k cut a b : ℕ) → c ≡ 19 → k ≢ 0 → cut ≡ made_of (codeKind c) w k cut a b
-unfolding made_of codeKind notIn
-made-not-above c w zero cut a b e n = absurd (n refl)
-made-not-above c w (suc k) cut a b e n = sym (rw e)
+pub made_not_above : (c w k cut a b : ℕ) → c ≡ 19 → k ≢ 0 → cut ≡ made_of (code_kind c) w k cut a b
+unfolding made_of code_kind not_in
+made_not_above c w zero cut a b e n = absurd (n refl)
+made_not_above c w (suc k) cut a b e n = sym (rw e)
 
 -- ---- where the place goes
 
 module _ (c : ℕ) where
-  pub moves-on : c < 4 → (1 ≡ moves (codeKind c)) × (1 ≤ 7)
+  pub moves-on : c < 4 → (1 ≡ moves (code_kind c)) × (1 ≤ 7)
   unfolding moves
-  moves-on h = (sym (rw (kind-store c h)), omega arith)
+  moves-on h = (sym (rw (kind_store c h)), omega arith)
 
-  pub moves-all : c ≡ 20 → (1 ≡ moves (codeKind c)) × (1 ≤ 7)
-  unfolding moves codeKind
+  pub moves-all : c ≡ 20 → (1 ≡ moves (code_kind c)) × (1 ≤ 7)
+  unfolding moves code_kind
   moves-all e = (sym (rw e), omega arith)
 
-  pub moves-back : 16 ≤ c → c < 19 → (7 ≡ moves (codeKind c)) × (7 ≤ 7)
-  unfolding moves codeKind
-  moves-back h l = (go (ℕ_discrete c 16) (ℕ_discrete c 17), omega arith)
+  pub moves_back : 16 ≤ c → c < 19 → (7 ≡ moves (code_kind c)) × (7 ≤ 7)
+  unfolding moves code_kind
+  moves_back h l = (go (ℕ_discrete c 16) (ℕ_discrete c 17), omega arith)
     where
-      go : Dec (c ≡ 16) → Dec (c ≡ 17) → 7 ≡ moves (codeKind c)
+      go : Dec (c ≡ 16) → Dec (c ≡ 17) → 7 ≡ moves (code_kind c)
       go (yes e) d = sym (rw e)
       go (no a) (yes e) = sym (rw e)
       go (no a) (no b) = let e : c ≡ 18 = omega arith in sym (rw e)
 
-  pub moves_not : 4 ≤ c → (c < 16) ⊎ (19 ≤ c) → c ≢ 20 → (0 ≡ moves (codeKind c)) × (0 ≤ 7)
-  unfolding moves codeKind
+  pub moves_not : 4 ≤ c → (c < 16) ⊎ (19 ≤ c) → c ≢ 20 → (0 ≡ moves (code_kind c)) × (0 ≤ 7)
+  unfolding moves code_kind
   moves_not h o n20 = (go (ℕ_discrete c 19), omega arith)
     where
-      go : Dec (c ≡ 19) → 0 ≡ moves (codeKind c)
+      go : Dec (c ≡ 19) → 0 ≡ moves (code_kind c)
       go (yes e) = sym (rw e)
-      go (no n19) = sym (rw (kind-unknown c h o n19 n20))
+      go (no n19) = sym (rw (kind_unknown c h o n19 n20))
 
 -- ---- turns
 
@@ -89,11 +89,11 @@ module _ (k cut : ℕ) (ws cs v : List ℕ) (d b j : ℕ) (h : j < length cs) wh
   unfolding evaluated
   one_code = ap (λ (l : List ℕ). evaluated k cut ws l (record { words = v; place = d; last = b })) (sym (drop-cons cs j 0 h))
 
-  pub turned-one : (m r : ℕ) → m ≡ moves (codeKind (get_or cs j 0))
-      → r ≡ made_of (codeKind (get_or cs j 0)) (get_or ws (get_or cs j 0) 0) k cut (get_or (set v d b) ((d + 7) % 8) 0) b
+  pub turned_one : (m r : ℕ) → m ≡ moves (code_kind (get_or cs j 0))
+      → r ≡ made_of (code_kind (get_or cs j 0)) (get_or ws (get_or cs j 0) 0) k cut (get_or (set v d b) ((d + 7) % 8) 0) b
       → Turned k cut ws cs j v d b (set v d b) (record { last = r; place = (d + m) % 8; next = j + 1 })
   unfolding stepped
-  turned-one m r em er = record {
+  turned_one m r em er = record {
     inside = omega arith;
     long = length-set v d b;
     on = omega arith;
@@ -107,22 +107,22 @@ module _ (k cut : ℕ) (ws cs v : List ℕ) (d b j : ℕ) (h : j < length cs) wh
 store_step : (k cut : ℕ) (ws v : List ℕ) (c d b : ℕ) → c < 4
     → stepped k cut ws c (record { words = v; place = d; last = b }) ≡ record { words = set v d b; place = (d + 1) % 8; last = get_or ws c 0 }
 unfolding stepped made_of moves
-store_step k cut ws v c d b h = rw (kind-store c h)
+store_step k cut ws v c d b h = rw (kind_store c h)
 
 -- a code that joins the values x and y, which was put last
 join_step : (k cut : ℕ) (ws v : List ℕ) (c d x y : ℕ) {r : ℕ} → 16 ≤ c → c < 19 → get_or (set v d y) ((d + 7) % 8) 0 ≡ x → r ≡ joined c k x y
     → stepped k cut ws c (record { words = v; place = d; last = y }) ≡ record { words = set v d y; place = (d + 7) % 8; last = r }
 unfolding stepped
 join_step k cut ws v c d x y h l e er =
-    ap₂ (λ (m z : ℕ). record { words = set v d y; place = (d + m) % 8; last = made_of (codeKind c) (get_or ws c 0) k cut z y }) (sym (moves-back c h l).0) e
-    ∙ ap (λ (z : ℕ). record { words = set v d y; place = (d + 7) % 8; last = z }) (sym (made-joined c (get_or ws c 0) k cut x y h l er))
+    ap₂ (λ (m z : ℕ). record { words = set v d y; place = (d + m) % 8; last = made_of (code_kind c) (get_or ws c 0) k cut z y }) (sym (moves_back c h l).0) e
+    ∙ ap (λ (z : ℕ). record { words = set v d y; place = (d + 7) % 8; last = z }) (sym (made_joined c (get_or ws c 0) k cut x y h l er))
 
 -- three codes that join two stores
 module _ (k cut : ℕ) (ws cs v : List ℕ) (d b j : ℕ) (p : Joins cs j) (long : length v ≡ 8) (h : d < 8) where
-  pub turned-three : (x y r : ℕ) → x ≡ get_or ws (get_or cs j 0) 0 → y ≡ get_or ws (get_or cs (j + 1) 0) 0
+  pub turned_three : (x y r : ℕ) → x ≡ get_or ws (get_or cs j 0) 0 → y ≡ get_or ws (get_or cs (j + 1) 0) 0
       → r ≡ joined (get_or cs (j + 2) 0) k x y
       → Turned k cut ws cs j v d b (set (set (set v d b) ((d + 1) % 8) x) ((d + 2) % 8) y) (record { last = r; place = (d + 1) % 8; next = j + 3 })
-  turned-three x y r ex ey er =
+  turned_three x y r ex ey er =
       let v₁ = set v d b in
       let v₂ = set v₁ ((d + 1) % 8) x in
       let v₃ = set v₂ ((d + 2) % 8) y in
@@ -154,11 +154,11 @@ module _ (k cut : ℕ) (ws cs v : List ℕ) (d b j : ℕ) (p : Joins cs j) (long
       }
 
   -- and a fourth that joins what waits with them
-  pub turned-four : (x y z r : ℕ) → JoinsTwo cs (j + 3) → x ≡ get_or ws (get_or cs j 0) 0 → y ≡ get_or ws (get_or cs (j + 1) 0) 0
+  pub turned_four : (x y z r : ℕ) → JoinsTwo cs (j + 3) → x ≡ get_or ws (get_or cs j 0) 0 → y ≡ get_or ws (get_or cs (j + 1) 0) 0
       → z ≡ joined (get_or cs (j + 2) 0) k x y → r ≡ joined (get_or cs (j + 3) 0) k b z
       → Turned k cut ws cs j v d b (set (set (set (set v d b) ((d + 1) % 8) x) ((d + 2) % 8) y) ((d + 1) % 8) z) (record { last = r; place = d; next = j + 4 })
-  turned-four x y z r q ex ey ez er =
-      let t = turned-three x y z ex ey ez in
+  turned_four x y z r q ex ey ez er =
+      let t = turned_three x y z ex ey ez in
       let v₁ = set v d b in
       let v₂ = set v₁ ((d + 1) % 8) x in
       let v₃ = set v₂ ((d + 2) % 8) y in
@@ -185,20 +185,20 @@ module _ (k cut : ℕ) (ws cs v : List ℕ) (d b j : ℕ) (p : Joins cs j) (long
 
 -- ---- the loop
 
-pub evaluating-start : (k cut : ℕ) (ws cs v : List ℕ) → v ≡ begun.words → Evaluating k cut ws cs v 0 0 0
-evaluating-start k cut ws cs v e = record {
+pub evaluating_start : (k cut : ℕ) (ws cs v : List ℕ) → v ≡ begun.words → Evaluating k cut ws cs v 0 0 0
+evaluating_start k cut ws cs v e = record {
   inside = omega arith;
   long = ap length e;
   same = ap (λ (x : List ℕ). evaluated k cut ws cs (record { words = x; place = 0; last = 0 })) e;
 }
 
 module _ {k cut : ℕ} {ws cs v : List ℕ} {d b j : ℕ} (g : Evaluating k cut ws cs v d b j) where
-  pub evaluating-on : {u : List ℕ} {t : Turn} → Turned k cut ws cs j v d b u t → Evaluating k cut ws cs u t.place t.last t.next
-  evaluating-on w = record { inside = w.inside; long = w.long ∙ g.long; same = w.same ∙ g.same }
+  pub evaluating_on : {u : List ℕ} {t : Turn} → Turned k cut ws cs j v d b u t → Evaluating k cut ws cs u t.place t.last t.next
+  evaluating_on w = record { inside = w.inside; long = w.long ∙ g.long; same = w.same ∙ g.same }
 
-  pub evaluating-done : length cs ≤ j → b ≡ evaluated k cut ws cs begun
+  pub evaluating_done : length cs ≤ j → b ≡ evaluated k cut ws cs begun
   unfolding evaluated
-  evaluating-done h = sym (ap (λ (l : List ℕ). evaluated k cut ws l (record { words = v; place = d; last = b })) (drop_of_length-le cs h)) ∙ g.same
+  evaluating_done h = sym (ap (λ (l : List ℕ). evaluated k cut ws l (record { words = v; place = d; last = b })) (drop_of_length-le cs h)) ∙ g.same
 
 pub three : (cs : List ℕ) → length cs ≡ 3 → cs ≡ get_or cs 0 0 ∷ get_or cs 1 0 ∷ get_or cs 2 0 ∷ []
 three [] h = absurd (omega arith)

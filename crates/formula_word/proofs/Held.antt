@@ -9,24 +9,24 @@ use borrow.Author.Tests.{leb-true, ltb-true}
 use lib.Dec.{leb, ltb}
 use lib.ListN.{length, get_or, set, length-set}
 use lib.Seq.{get_or-set_same, get_or-set_other}
-use Rattle.formula_codes.specs.Codes.{CodeKind, codeKind, joinTwo, turnOne, grow, trees, firstTree, takes, takesIn, left}
+use Rattle.formula_codes.specs.Codes.{CodeKind, code_kind, join_two, turn_one, grow, trees, first_tree, takes, takes_in, left}
 use Rattle.formula_codes.specs.Codes.CodeKind.{is_store, isBoth, isEither, isOneOf, isInverse, isEvery, isUnknown}
-use Rattle.formula_codes.specs.Tree.{Tree, joined, notIn, value}
+use Rattle.formula_codes.specs.Tree.{Tree, joined, not_in, value}
 use Rattle.formula_codes.specs.Tree.Tree.{store, both, either, one_of, inverse, every}
 use Rattle.formula_word.specs.Machine.{Stack, made_of, moves, stepped, evaluated}
 
 -- what a code of a formula finds: values enough, and at most seven that it leaves
 pub record FitsStack (ls : List ℕ) (c : ℕ) (cs : List ℕ) (d w : ℕ) : Type 0 where
-  pub enough : takesIn ls c ≤ d
-  pub few : d - takesIn ls c < 8
-  pub onward : left ls cs (suc (d - takesIn ls c)) ≡ w
+  pub enough : takes_in ls c ≤ d
+  pub few : d - takes_in ls c < 8
+  pub onward : left ls cs (suc (d - takes_in ls c)) ≡ w
 
 pub code_fits : (ls : List ℕ) (c : ℕ) (cs : List ℕ) (d w : ℕ) → w ≢ 0 → left ls (c ∷ cs) d ≡ w → FitsStack ls c cs d w
 unfolding left
 code_fits ls c cs d w n e = go (leb t d) (ltb (d - t) 8) refl refl e
   where
     t : ℕ
-    t = takesIn ls c
+    t = takes_in ls c
 
     go : (x y : Bool) → leb t d ≡ x → ltb (d - t) 8 ≡ y → cond (x && y) (left ls cs (suc (d - t))) 0 ≡ w → FitsStack ls c cs d w
     go true true p q e = record { enough = leb-true t d p; few = ltb-true (d - t) 8 q; onward = e }
@@ -84,9 +84,9 @@ module _ (w : ℕ → ℕ) (k cut : ℕ) where
               under-set s.words st s.place s.last (λ y a b e. omega arith) t.1,
             )
 
-    held-joined : (st : List Tree) (a b e : Tree) (x : ℕ) → (below ≡ value w k cut a → s.last ≡ value w k cut b → x ≡ value w k cut e)
+    held_joined : (st : List Tree) (a b e : Tree) (x : ℕ) → (below ≡ value w k cut a → s.last ≡ value w k cut b → x ≡ value w k cut e)
         → HeldOn s (b ∷ a ∷ st) → HeldOn (after 7 x) (e ∷ st)
-    held-joined st a b e x f h =
+    held_joined st a b e x f h =
         let n : suc (suc (length st)) ≤ 8 = h.few in
         let i : (s.place + 7) % 8 ≡ suc (length st) = omega (arith, h.here) in
         let o : suc (length st) ≢ s.place = λ q. omega (arith, h.here) in
@@ -113,36 +113,36 @@ module _ (w : ℕ → ℕ) (k cut : ℕ) where
   Left s st d t = HeldOn s st × (length st ≡ suc (d - t))
 
   two : (f : Tree → Tree → Tree) (s : Stack) (st : List Tree) (x : ℕ) → 2 ≤ length st
-      → ((a b : Tree) → below s ≡ value w k cut a → s.last ≡ value w k cut b → x ≡ value w k cut (f a b)) → HeldOn s st → Left (after s 7 x) (joinTwo f st) (length st) 2
+      → ((a b : Tree) → below s ≡ value w k cut a → s.last ≡ value w k cut b → x ≡ value w k cut (f a b)) → HeldOn s st → Left (after s 7 x) (join_two f st) (length st) 2
   two f s [] x h g held = absurd (omega arith)
   two f s (b ∷ []) x h g held = absurd (omega arith)
-  two f s (b ∷ a ∷ st) x h g held = (held-joined s st a b (f a b) x (g a b) held, omega arith)
+  two f s (b ∷ a ∷ st) x h g held = (held_joined s st a b (f a b) x (g a b) held, omega arith)
 
   one : (f : Tree → Tree) (s : Stack) (st : List Tree) (x : ℕ) → 1 ≤ length st → ((a : Tree) → s.last ≡ value w k cut a → x ≡ value w k cut (f a)) → HeldOn s st
-      → Left (after s 0 x) (turnOne f st) (length st) 1
+      → Left (after s 0 x) (turn_one f st) (length st) 1
   one f s [] x h g held = absurd (omega arith)
   one f s (a ∷ st) x h g held = (turned s st a (f a) x (g a) held, omega arith)
 
-  by-kind : (κ : CodeKind) (lent : Bool) (c x : ℕ) (s : Stack) (st : List Tree) → x ≡ w c → takes κ lent ≤ length st → length st - takes κ lent < 8 → HeldOn s st
+  by_kind_lem : (κ : CodeKind) (lent : Bool) (c x : ℕ) (s : Stack) (st : List Tree) → x ≡ w c → takes κ lent ≤ length st → length st - takes κ lent < 8 → HeldOn s st
       → Left (after s (moves κ) (made_of κ x k cut (below s) s.last)) (grow κ c st) (length st) (takes κ lent)
   unfolding moves made_of value
-  by-kind is_store true c x s st e h l held = (pushed s st (store c) x (omega (arith, l)) e held, omega arith)
-  by-kind is_store false c x s st e h l held = absurd (omega (arith, held.few))
-  by-kind isBoth lent c x s st e h l held = two both s st (joined 16 k (below s) s.last) h (λ a b p q. ap₂ (joined 16 k) p q) held
-  by-kind isEither lent c x s st e h l held = two either s st (joined 17 k (below s) s.last) h (λ a b p q. ap₂ (joined 17 k) p q) held
-  by-kind isOneOf lent c x s st e h l held = two one_of s st (joined 18 k (below s) s.last) h (λ a b p q. ap₂ (joined 18 k) p q) held
-  by-kind isInverse lent c x s st e h l held = one inverse s st (notIn k cut s.last) h (λ a p. ap (notIn k cut) p) held
-  by-kind isEvery lent c x s st e h l held = (pushed s st every cut (omega (arith, l)) refl held, omega arith)
-  by-kind isUnknown lent c x s st e h l held = absurd (omega (arith, held.few))
+  by_kind_lem is_store true c x s st e h l held = (pushed s st (store c) x (omega (arith, l)) e held, omega arith)
+  by_kind_lem is_store false c x s st e h l held = absurd (omega (arith, held.few))
+  by_kind_lem isBoth lent c x s st e h l held = two both s st (joined 16 k (below s) s.last) h (λ a b p q. ap₂ (joined 16 k) p q) held
+  by_kind_lem isEither lent c x s st e h l held = two either s st (joined 17 k (below s) s.last) h (λ a b p q. ap₂ (joined 17 k) p q) held
+  by_kind_lem isOneOf lent c x s st e h l held = two one_of s st (joined 18 k (below s) s.last) h (λ a b p q. ap₂ (joined 18 k) p q) held
+  by_kind_lem isInverse lent c x s st e h l held = one inverse s st (not_in k cut s.last) h (λ a p. ap (not_in k cut) p) held
+  by_kind_lem isEvery lent c x s st e h l held = (pushed s st every cut (omega (arith, l)) refl held, omega arith)
+  by_kind_lem isUnknown lent c x s st e h l held = absurd (omega (arith, held.few))
 
   -- THE CODES, from any trees that wait on: where one value is left, it is the tree's
-  pub leaves-value : (ls ws cs : List ℕ) → ((c : ℕ) → get_or ws c 0 ≡ w c) → (s : Stack) (st : List Tree) → HeldOn s st → left ls cs (length st) ≡ 1
-      → evaluated k cut ws cs s ≡ value w k cut (firstTree (trees cs st))
-  unfolding left trees evaluated takesIn stepped
-  leaves-value ls ws [] is s [] held e = absurd (omega (arith, e))
-  leaves-value ls ws [] is s (x ∷ []) held e = held.tops.0
-  leaves-value ls ws [] is s (x ∷ y ∷ st) held e = absurd (omega (arith, e))
-  leaves-value ls ws (c ∷ cs) is s st held e =
+  pub leaves_value : (ls ws cs : List ℕ) → ((c : ℕ) → get_or ws c 0 ≡ w c) → (s : Stack) (st : List Tree) → HeldOn s st → left ls cs (length st) ≡ 1
+      → evaluated k cut ws cs s ≡ value w k cut (first_tree (trees cs st))
+  unfolding left trees evaluated takes_in stepped
+  leaves_value ls ws [] is s [] held e = absurd (omega (arith, e))
+  leaves_value ls ws [] is s (x ∷ []) held e = held.tops.0
+  leaves_value ls ws [] is s (x ∷ y ∷ st) held e = absurd (omega (arith, e))
+  leaves_value ls ws (c ∷ cs) is s st held e =
       let f = code_fits ls c cs (length st) 1 (λ q. omega arith) e in
-      let n = by-kind (codeKind c) (ltb 0 (get_or ls c 0)) c (get_or ws c 0) s st (is c) f.enough f.few held in
-      leaves-value ls ws cs is (stepped k cut ws c s) (grow (codeKind c) c st) n.0 (ap (left ls cs) n.1 ∙ f.onward)
+      let n = by_kind_lem (code_kind c) (ltb 0 (get_or ls c 0)) c (get_or ws c 0) s st (is c) f.enough f.few held in
+      leaves_value ls ws cs is (stepped k cut ws c s) (grow (code_kind c) c st) n.0 (ap (left ls cs) n.1 ∙ f.onward)

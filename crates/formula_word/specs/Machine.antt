@@ -1,11 +1,11 @@
 -- The word of a formula as it is computed: the codes one after another, on a stack of eight places. For every list of codes and every
 -- number; for a formula over stores of capacity N it is the tree's word.
 use Rattle.std.specs.Prelude.{List, [], ◌∷◌, map, ℕ, suc, ◌+◌, ◌%◌, get_or, set, replicate}
-use Rattle.store.specs.Layout.{topMost}
-use Rattle.formula_codes.specs.Codes.{CodeKind, codeKind}
+use Rattle.store.specs.Layout.{top_most}
+use Rattle.formula_codes.specs.Codes.{CodeKind, code_kind}
 use Rattle.formula_codes.specs.Codes.CodeKind.{is_store, isBoth, isEither, isOneOf, isInverse, isEvery, isUnknown}
-use Rattle.formula_codes.specs.Tree.{existing, joined, notIn}
-use Rattle.formula_place.specs.Spots.{placesIn, place_of}
+use Rattle.formula_codes.specs.Tree.{existing, joined, not_in}
+use Rattle.formula_place.specs.Spots.{places_in, place_of}
 
 -- ---- one code
 
@@ -21,7 +21,7 @@ made_of is_store w k cut a b = w
 made_of isBoth w k cut a b = joined 16 k a b
 made_of isEither w k cut a b = joined 17 k a b
 made_of isOneOf w k cut a b = joined 18 k a b
-made_of isInverse w k cut a b = notIn k cut b
+made_of isInverse w k cut a b = not_in k cut b
 made_of isEvery w k cut a b = cut
 made_of isUnknown w k cut a b = b
 
@@ -41,8 +41,8 @@ stepped k cut ws c s =
     let v = set s.words s.place s.last in
     record {
       words = v;
-      place = (s.place + moves (codeKind c)) % 8;
-      last = made_of (codeKind c) (get_or ws c 0) k cut (get_or v ((s.place + 7) % 8) 0) s.last;
+      place = (s.place + moves (code_kind c)) % 8;
+      last = made_of (code_kind c) (get_or ws c 0) k cut (get_or v ((s.place + 7) % 8) 0) s.last;
     }
 
 -- ---- all of them
@@ -59,7 +59,7 @@ unfoldable pub word_at : List (List ℕ) → List ℕ → ℕ → ℕ → ℕ �
 word_at ss cs k cut at = evaluated k cut (map (λ s. get_or s at 0) ss) cs begun
 
 -- word i of a layer; layers count modulo their number
-unfoldable pub machineWord : ℕ → List (List ℕ) → List ℕ → ℕ → ℕ → ℕ
-machineWord N ss cs layer i =
-    let k = layer % suc topMost in
-    word_at ss cs k (existing (placesIn N k) i) (place_of N k i)
+unfoldable pub machine_word : ℕ → List (List ℕ) → List ℕ → ℕ → ℕ → ℕ
+machine_word N ss cs layer i =
+    let k = layer % suc top_most in
+    word_at ss cs k (existing (places_in N k) i) (place_of N k i)

@@ -1,15 +1,15 @@
 // The layer word of a formula, its codes one after another on a stack: the Rust's `BitSetAnd`, `BitSetOr`, `BitSetXor`, `BitSetNot` and
 // `BitSetAll` of ops.rs.
 ghost use Rattle.std.specs.Prelude.{true, ◌≡◌, suc, ◌%◌, ◌≤◌, ◌<◌, length, get_or};
-ghost use Rattle.store.specs.Layout.{topMost};
-ghost use Rattle.formula_codes.specs.Codes.{codeKind};
+ghost use Rattle.store.specs.Layout.{top_most};
+ghost use Rattle.formula_codes.specs.Codes.{code_kind};
 ghost use Rattle.formula_codes.specs.Tree.{four};
-ghost use Rattle.formula_word.specs.Machine.{made_of, moves, evaluated, begun, word_at, machineWord};
+ghost use Rattle.formula_word.specs.Machine.{made_of, moves, evaluated, begun, word_at, machine_word};
 ghost use Rattle.formula_word.specs.Steps.{JoinsTwo, Joins, Evaluating, Turned};
 
 // What a code makes of the last two values in layer k, where the bits that exist are `cut` and the stores' words are `words`.
 fn made(code: u8, k: usize, cut: u64, words: &[u64; 4], a: u64, b: u64) -> u64
-    ensures { result ≡ made_of (codeKind code) (get_or words.now code 0) k cut a b }
+    ensures { result ≡ made_of (code_kind code) (get_or words.now code 0) k cut a b }
 {
     match code {
         0..=3 => {
@@ -30,7 +30,7 @@ fn made(code: u8, k: usize, cut: u64, words: &[u64; 4], a: u64, b: u64) -> u64
 
 // How far a code moves the place of the last value, in a ring of eight.
 fn moves(code: u8) -> usize
-    ensures { (result ≡ moves (codeKind code)) × (result ≤ 7) }
+    ensures { (result ≡ moves (code_kind code)) × (result ≤ 7) }
 {
     match code {
         0..=3 => 1,
@@ -204,7 +204,7 @@ pub fn word_at(
     s3: &[u64],
 ) -> u64
     ensures { let ss = four s0.now s1.now s2.now s3.now in
-        result ≡ word_at ss codes.now (layer % suc topMost) cut at }
+        result ≡ word_at ss codes.now (layer % suc top_most) cut at }
 {
     let words = [
         store::get(s0, at),
@@ -227,7 +227,7 @@ pub fn word(
     s3: &[u64],
 ) -> u64
     ensures { let ss = four s0.now s1.now s2.now s3.now in
-        result ≡ machineWord n ss codes.now layer i }
+        result ≡ machine_word n ss codes.now layer i }
 {
     let cut = formula_place::cut(true, n, layer, i);
     let at = formula_place::spot(n, layer, i);

@@ -1,7 +1,7 @@
 -- What a line of the listing program means. Document 01: "`a`, `r` or `c`, a blank, 1 to 10 decimal digits no greater than 4294967295;
 -- or `w`. .. Any other line, also an empty or longer one, prints `?`".
 use Rattle.std.specs.Prelude.{cond, List, [], ◌∷◌, ℕ, eqb, ltb, length}
-use Rattle.text_in.specs.Number.{digits, valueAfter}
+use Rattle.text_in.specs.Number.{digits, value_after}
 use Rattle.listing_line.specs.declared.Command.{Command}
 use Rattle.listing_line.specs.declared.Command.TheVariants.{Add, Remove, Contains, List as Members, Unknown}
 use Rattle.listing_line.specs.declared.Id.{Id}
@@ -12,20 +12,20 @@ use Rattle.listing_line.specs.declared.Id.TheVariants.{At, Bad}
 unfoldable pub id_of : List ℕ → Id
 id_of bs =
     let ds = digits bs in
-    let value = valueAfter 0 ds in
+    let value = value_after 0 ds in
     cond (ltb 10 (length bs)) Bad
     (cond (eqb (length ds) 0) Bad
     (cond (ltb 4294967295 value) Bad
     (cond (ltb (length ds) (length bs)) Bad (At value))))
 
 -- "`a`, `r` or `c`", and an id
-unfoldable pub withId : ℕ → Id → Command
-withId letter Bad = Unknown
-withId letter (At i) =
+unfoldable pub with_id : ℕ → Id → Command
+with_id letter Bad = Unknown
+with_id letter (At i) =
     cond (eqb letter 97) (Add i) (cond (eqb letter 114) (Remove i) (cond (eqb letter 99) (Contains i) Unknown))
 
 -- `w` alone, or a letter, a blank and an id
-unfoldable pub commandOf : List ℕ → Command
-commandOf [] = Unknown
-commandOf (b ∷ []) = cond (eqb b 119) Members Unknown
-commandOf (letter ∷ b ∷ bs) = cond (eqb b 32) (withId letter (id_of bs)) Unknown
+unfoldable pub command_of : List ℕ → Command
+command_of [] = Unknown
+command_of (b ∷ []) = cond (eqb b 119) Members Unknown
+command_of (letter ∷ b ∷ bs) = cond (eqb b 32) (with_id letter (id_of bs)) Unknown

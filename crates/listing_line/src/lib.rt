@@ -1,6 +1,6 @@
 // What a line of the listing program means. Which lines are commands, both ways, and that a number that was put is read back, are theorems.
 ghost use Rattle.std.specs.Prelude.{◌≡◌, take, drop, get_or};
-ghost use Rattle.listing_line.specs.Line.{id_of, withId, commandOf};
+ghost use Rattle.listing_line.specs.Line.{id_of, with_id, command_of};
 
 use text_in::Decimal;
 
@@ -45,7 +45,7 @@ fn read_id(line: &[u8]) -> Id
 
 // The command of a letter before an id.
 fn with_id(letter: u8, id: Id) -> Command
-    ensures { result ≡ withId letter id }
+    ensures { result ≡ with_id letter id }
 {
     let Id::At(i) = id else {
         return Command::Unknown;
@@ -59,7 +59,7 @@ fn with_id(letter: u8, id: Id) -> Command
 }
 
 pub fn parse(line: &[u8]) -> Command
-    ensures { result ≡ commandOf line.now }
+    ensures { result ≡ command_of line.now }
 {
     let letter = byte(line, 0);
     if line.len() == 1 {
@@ -76,7 +76,7 @@ pub fn parse(line: &[u8]) -> Command
 
 // The first `len` bytes of the buffer are the line.
 pub fn command_in(line: &[u8], len: usize) -> Command
-    ensures { result ≡ commandOf (take len line.now) }
+    ensures { result ≡ command_of (take len line.now) }
 {
     if len < line.len() {
         return parse(&line[..len]);

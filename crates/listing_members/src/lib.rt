@@ -2,12 +2,12 @@
 ghost use Rattle.std.specs.Prelude.{true, ◌∷◌, ◌≡◌};
 ghost use Rattle.store.specs.Layout.{is_store};
 ghost use Rattle.walk_batches.specs.Steps.{walked};
-ghost use Rattle.text_out.specs.Out.{holding, putAllOf, decimalOf};
-ghost use Rattle.listing_members.specs.Members.{ids_of, membersLine};
+ghost use Rattle.text_out.specs.Out.{holding, put_all_of, decimal_of};
+ghost use Rattle.listing_members.specs.Members.{ids_of, members_line};
 
 // A blank and an id.
 fn put_id(buf: &mut [u8], at: usize, id: u32) -> usize
-    ensures { holding buf.new result ≡ putAllOf buf.old at (32 ∷ decimalOf id) }
+    ensures { holding buf.new result ≡ put_all_of buf.old at (32 ∷ decimal_of id) }
 {
     let a = text_out::put_byte(buf, at, b' ');
     text_out::put_number(buf, a, id as u64)
@@ -15,7 +15,7 @@ fn put_id(buf: &mut [u8], at: usize, id: u32) -> usize
 
 // Each id of a batch after a blank.
 fn put_ids(buf: &mut [u8], at: usize, ids: &[u32]) -> usize
-    ensures { holding buf.new result ≡ putAllOf buf.old at (ids_of ids.now) }
+    ensures { holding buf.new result ≡ put_all_of buf.old at (ids_of ids.now) }
 {
     let mut a = at;
     let mut i = 0usize;
@@ -29,7 +29,7 @@ fn put_ids(buf: &mut [u8], at: usize, ids: &[u32]) -> usize
 // Each id that a walk of the store hands out, 64 ids at a time.
 fn put_walked(buf: &mut [u8], at: usize, store: &[u64]) -> usize
     requires { is_store store.now ≡ true }
-    ensures { holding buf.new result ≡ putAllOf buf.old at (ids_of (walked store.now)) }
+    ensures { holding buf.new result ≡ put_all_of buf.old at (ids_of (walked store.now)) }
 {
     let mut ids = [0u32; 64];
     let mut c = walk_batches::started(store);
@@ -48,7 +48,7 @@ fn put_walked(buf: &mut [u8], at: usize, store: &[u64]) -> usize
 
 // The whole line. A slice that is no store is refused by its number.
 pub fn put_members(buf: &mut [u8], at: usize, store: &[u64]) -> usize
-    ensures { holding buf.new result ≡ putAllOf buf.old at (membersLine store.now) }
+    ensures { holding buf.new result ≡ put_all_of buf.old at (members_line store.now) }
 {
     if store::capacity(store) == 0 {
         return text_out::put_all(buf, at, b"w refused 2\n");

@@ -1,8 +1,8 @@
 // What the listing program prints for a letter, an id and an answer.
 ghost use Rattle.std.specs.Prelude.{◌∷◌, ◌≡◌};
 ghost use Rattle.store.specs.declared.Asked.TheVariants.{Is, Refused};
-ghost use Rattle.text_out.specs.Out.{holding, putAllOf, decimalOf};
-ghost use Rattle.listing_printed.specs.Reply.{span_of, endText, replyOf};
+ghost use Rattle.text_out.specs.Out.{holding, put_all_of, decimal_of};
+ghost use Rattle.listing_printed.specs.Reply.{span_of, end_text, reply_of};
 
 use store::Asked;
 
@@ -38,7 +38,7 @@ fn place(letter: u8, yes: bool) -> Span
 
 // The word of an answer, with the blank before it and the line's end behind it.
 fn put_word(buf: &mut [u8], at: usize, letter: u8, yes: bool) -> usize
-    ensures { holding buf.new result ≡ putAllOf buf.old at (endText letter (Is yes)) }
+    ensures { holding buf.new result ≡ put_all_of buf.old at (end_text letter (Is yes)) }
 {
     let s = place(letter, yes);
     let from = s.from;
@@ -49,7 +49,7 @@ fn put_word(buf: &mut [u8], at: usize, letter: u8, yes: bool) -> usize
 
 // `refused` and the number.
 fn put_refused(buf: &mut [u8], at: usize, letter: u8, number: u32) -> usize
-    ensures { holding buf.new result ≡ putAllOf buf.old at (endText letter (Refused number)) }
+    ensures { holding buf.new result ≡ put_all_of buf.old at (end_text letter (Refused number)) }
 {
     let a = text_out::put_all(buf, at, b" refused ");
     let b = text_out::put_number(buf, a, number as u64);
@@ -58,7 +58,7 @@ fn put_refused(buf: &mut [u8], at: usize, letter: u8, number: u32) -> usize
 
 // Letter, blank and id.
 fn put_front(buf: &mut [u8], at: usize, letter: u8, id: u32) -> usize
-    ensures { holding buf.new result ≡ putAllOf buf.old at (letter ∷ 32 ∷ decimalOf id) }
+    ensures { holding buf.new result ≡ put_all_of buf.old at (letter ∷ 32 ∷ decimal_of id) }
 {
     let a = text_out::put_byte(buf, at, letter);
     let b = text_out::put_byte(buf, a, b' ');
@@ -67,7 +67,7 @@ fn put_front(buf: &mut [u8], at: usize, letter: u8, id: u32) -> usize
 
 // What is printed for a letter and an id that were answered.
 pub fn put_reply(buf: &mut [u8], at: usize, letter: u8, id: u32, answer: Asked) -> usize
-    ensures { holding buf.new result ≡ putAllOf buf.old at (replyOf letter id answer) }
+    ensures { holding buf.new result ≡ put_all_of buf.old at (reply_of letter id answer) }
 {
     let a = put_front(buf, at, letter, id);
     match answer {

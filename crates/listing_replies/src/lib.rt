@@ -1,13 +1,13 @@
 // What the listing program does and prints for a line that is read.
 ghost use Rattle.std.specs.Prelude.{◌≡◌};
-ghost use Rattle.text_out.specs.Out.{holding, putAllOf};
-ghost use Rattle.listing_replies.specs.Replies.{after_of, printedOf};
+ghost use Rattle.text_out.specs.Out.{holding, put_all_of};
+ghost use Rattle.listing_replies.specs.Replies.{after_of, printed_of};
 
 use listing_line::Command;
 
 // Command c stands in line `number`; where there is none, `?` and that number are printed.
 pub fn reply(store: &mut [u64], buf: &mut [u8], at: usize, c: Command, number: u64) -> usize
-    ensures { (holding buf.new result ≡ putAllOf buf.old at (printedOf store.old c number))
+    ensures { (holding buf.new result ≡ put_all_of buf.old at (printed_of store.old c number))
         × (store.new ≡ after_of store.old c) }
 {
     match c {

@@ -7,11 +7,11 @@ use Rattle.util.proofs.Bits.{shl_one}
 use Rattle.store.specs.Build.{room0}
 
 module _ (N q w : ℕ) where
-  pub cut-none : 64 * q + 64 ≤ N → w < 2 ^ 64 → w ≡ w % 2 ^ room0 N q
-  cut-none h g = let f : 64 ≡ room0 N q = omega arith in sym (mod-eq_of_lt g) ∙ ap (λ (k : ℕ). w % 2 ^ k) f
+  pub cut_none : 64 * q + 64 ≤ N → w < 2 ^ 64 → w ≡ w % 2 ^ room0 N q
+  cut_none h g = let f : 64 ≡ room0 N q = omega arith in sym (mod-eq_of_lt g) ∙ ap (λ (k : ℕ). w % 2 ^ k) f
 
-  pub cut-some : N / 64 ≡ q → w % (1 * 2 ^ (N % 64) % 2 ^ 64) ≡ w % 2 ^ room0 N q
-  cut-some e = let f : N % 64 ≡ room0 N q = omega arith in ap (λ (d : ℕ). w % d) (shl_one (N % 64) (omega arith) ∙ ap (λ (k : ℕ). 2 ^ k) f)
+  pub cut_some : N / 64 ≡ q → w % (1 * 2 ^ (N % 64) % 2 ^ 64) ≡ w % 2 ^ room0 N q
+  cut_some e = let f : N % 64 ≡ room0 N q = omega arith in ap (λ (d : ℕ). w % d) (shl_one (N % 64) (omega arith) ∙ ap (λ (k : ℕ). 2 ^ k) f)
 
   pub cut_all : N / 64 < q → 0 ≡ w % 2 ^ room0 N q
   cut_all h = let f : 0 ≡ room0 N q = omega arith in sym (mod-one w) ∙ ap (λ (k : ℕ). w % 2 ^ k) f

@@ -7,5 +7,5 @@ unfoldable pub with_last : List ℕ → ℕ → List ℕ
 with_last ws w = set ws (length ws - 1) w
 
 -- the numbers of the words that are not zero: "words not zero"
-unfoldable pub usedAt : List ℕ → List ℕ
-usedAt ws = places (λ q. get_or ws q 0) 0 (length ws)
+unfoldable pub used_at : List ℕ → List ℕ
+used_at ws = places (λ q. get_or ws q 0) 0 (length ws)

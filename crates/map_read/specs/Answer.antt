@@ -4,18 +4,18 @@ use Rattle.util.specs.Outcome.{Paper}
 use Rattle.map_read.specs.declared.MapFor.{MapFor}
 use Rattle.map_read.specs.declared.MapFor.TheVariants.{Capacity, Refused}
 
-abbrev mapFor : MapFor → List ℕ
-mapFor (Capacity n) = 0 ∷ n ∷ []
-mapFor (Refused n) = n ∷ []
+abbrev map_for : MapFor → List ℕ
+map_for (Capacity n) = 0 ∷ n ∷ []
+map_for (Refused n) = n ∷ []
 
 abbrev answer : List ℕ → MapFor
 answer [] = Refused 0
 answer (n ∷ []) = Refused n
 answer (n ∷ v ∷ l) = Capacity v
 
-abbrev same : (r : MapFor) → answer (mapFor r) ≡ r
+abbrev same : (r : MapFor) → answer (map_for r) ≡ r
 same (Capacity n) = refl
 same (Refused n) = refl
 
-abbrev pub mapForPaper : Paper MapFor
-mapForPaper = record { numbers = mapFor; answer = answer; same = same }
+abbrev pub map_for_paper : Paper MapFor
+map_for_paper = record { numbers = map_for; answer = answer; same = same }

@@ -1,13 +1,13 @@
 // The chunk map's reader: everything is checked before anything is written. Document 01, "Chunk map".
 ghost use Rattle.std.specs.Prelude.{◌≡◌, ◌+◌, ◌*◌, ◌≤◌, length};
 ghost use Rattle.util.specs.Outcome.{Settled};
-ghost use Rattle.store.specs.Answer.{didPaper};
+ghost use Rattle.store.specs.Answer.{did_paper};
 ghost use Rattle.store.specs.Build.{build};
-ghost use Rattle.store.specs.Layout.{maxCap};
+ghost use Rattle.store.specs.Layout.{max_cap};
 ghost use Rattle.map_format.specs.Bytes.{num_at};
-ghost use Rattle.map_read.specs.Answer.{mapForPaper};
-ghost use Rattle.map_read.specs.Calls.{mapCapacityOf, read_of};
-ghost use Rattle.map_read.specs.Judge.{headOk, entryOk, judgeOf, fillTable, mapWords};
+ghost use Rattle.map_read.specs.Answer.{map_for_paper};
+ghost use Rattle.map_read.specs.Calls.{map_capacity_of, read_of};
+ghost use Rattle.map_read.specs.Judge.{head_ok, entry_ok, judge_of, fill_table, map_words};
 ghost use Rattle.map_read.specs.Steps.{Table, table_of, Replaces};
 
 use store::Did;
@@ -36,7 +36,7 @@ fn get(map: &[u8], o: usize, n: usize) -> u64
 
 // Whether the header is one. The offset is only compared, and nothing is read through it.
 fn head_ok(map: &[u8]) -> bool
-    ensures { result ≡ headOk map.now }
+    ensures { result ≡ head_ok map.now }
 {
     if map.len() < 16 {
         return false;
@@ -58,8 +58,8 @@ fn head_ok(map: &[u8]) -> bool
 
 // Whether word x may stand at number q in a map of capacity n, the numbers below lo being used up.
 fn entry_ok(n: usize, lo: usize, q: usize, x: u64) -> bool
-    requires { (1 ≤ n) × (n ≤ maxCap) }
-    ensures { result ≡ entryOk n lo q x }
+    requires { (1 ≤ n) × (n ≤ max_cap) }
+    ensures { result ≡ entry_ok n lo q x }
 {
     if q < lo {
         return false;
@@ -101,7 +101,7 @@ fn judge_table(table: &[u8], n: usize, used: usize, members: u64) -> u32
 
 // What is wrong with a map for a store of capacity n: the first refusal's number, or 0.
 fn judge(map: &[u8], n: usize) -> u32
-    ensures { result ≡ judgeOf map.now n }
+    ensures { result ≡ judge_of map.now n }
 {
     if !head_ok(map) {
         return 9;
@@ -117,7 +117,7 @@ fn judge(map: &[u8], n: usize) -> u32
 // The words of the entries are put at their numbers.
 fn place(layer: &mut [u64], table: &[u8], used: usize)
     requires { 12 * used ≤ length table.now }
-    ensures { layer.new ≡ fillTable layer.old used table.now }
+    ensures { layer.new ≡ fill_table layer.old used table.now }
 {
     let mut j = 0usize;
     while j < used {
@@ -132,7 +132,7 @@ fn place(layer: &mut [u64], table: &[u8], used: usize)
 // Every layer is replaced by what a right map tells: layer 0 from nothing, and the summaries that it asks.
 fn replace(map: &[u8], store: &mut [u64], n: usize)
     requires { Replaces map.now store.old n }
-    ensures { store.new ≡ build n (mapWords n map.now) }
+    ensures { store.new ≡ build n (map_words n map.now) }
 {
     set_whole::clear(store);
     let used = get(map, 8, 4) as usize;
@@ -144,7 +144,7 @@ fn replace(map: &[u8], store: &mut [u64], n: usize)
 
 // The capacity that a map names. Its header alone is looked at: for a store of that capacity the entries may still be refused.
 pub fn capacity(map: &[u8]) -> MapFor
-    ensures { Settled mapForPaper (mapCapacityOf map.now) result tt }
+    ensures { Settled map_for_paper (map_capacity_of map.now) result tt }
 {
     if !head_ok(map) {
         return MapFor::Refused(9);
@@ -155,7 +155,7 @@ pub fn capacity(map: &[u8]) -> MapFor
 
 // Replaces a store's members by those of a map of its capacity.
 pub fn read(map: &[u8], store: &mut [u64]) -> Did
-    ensures { Settled didPaper (read_of map.now store.old) result store.new }
+    ensures { Settled did_paper (read_of map.now store.old) result store.new }
 {
     let n = store::capacity(store);
     if n == 0 {

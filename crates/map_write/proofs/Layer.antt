@@ -6,25 +6,25 @@ use native.Mathlib.Omega.{arith}
 use lib.ListN.{length, get_or, take, drop}
 use lib.Seq.{get_or-drop}
 use Rattle.store.specs.Build.{room0}
-use Rattle.store.specs.Layout.{room, layerLen, layerStart, StoreOf}
+use Rattle.store.specs.Layout.{room, layer_len, layer_start, StoreOf}
 use Rattle.store.specs.Word.{Words64}
 use Rattle.store.proofs.Ends.{Lent0}
-use Rattle.map_format.specs.Steps.{with_last, usedAt}
-use Rattle.map_format.proofs.Used.{length-with-last, used-none, used-cons}
-use Rattle.map_write.specs.Map.{keptFrom, toldWords, used, mapLen}
+use Rattle.map_format.specs.Steps.{with_last, used_at}
+use Rattle.map_format.proofs.Used.{length_with_last, used_none, used_cons}
+use Rattle.map_write.specs.Map.{kept_from, told_words, used, map_len}
 use Rattle.map_write.specs.Steps.{EntryFits}
-use Rattle.map_write.proofs.Words.{kept-with-last}
+use Rattle.map_write.proofs.Words.{kept_with_last}
 
 -- ---- the words that are not zero
 
-used-is : (ws : List ℕ) → used ws ≡ length (usedAt ws)
+used_is : (ws : List ℕ) → used ws ≡ length (used_at ws)
 unfolding used
-used-is [] = sym used-none
-used-is (w ∷ ws) = omega (arith, used-is ws, used-cons w ws)
+used_is [] = sym used_none
+used_is (w ∷ ws) = omega (arith, used_is ws, used_cons w ws)
 
 -- their map's length
-pub length-same : (ws : List ℕ) → 16 + 12 * length (usedAt ws) ≡ mapLen ws
-length-same ws = ap (λ (k : ℕ). 16 + 12 * k) (sym (used-is ws))
+pub length-same : (ws : List ℕ) → 16 + 12 * length (used_at ws) ≡ map_len ws
+length-same ws = ap (λ (k : ℕ). 16 + 12 * k) (sym (used_is ws))
 
 -- ---- layer 0 of a store, lent from a on
 
@@ -32,25 +32,25 @@ abbrev pub lent : List ℕ → ℕ → List ℕ
 lent s a = take (length s - a) (drop a s)
 
 module _ {N : ℕ} {s : List ℕ} (z : StoreOf N s) {a : ℕ} (l : Lent0 N s a) where
-  long-lent : length (lent s a) ≡ layerLen N 0
-  long-lent = ap length l.words ∙ l.long
+  long_lent : length (lent s a) ≡ layer_len N 0
+  long_lent = ap length l.words ∙ l.long
 
-  pub some-lent : 1 ≤ length (lent s a)
+  pub some_lent : 1 ≤ length (lent s a)
   unfolding room
-  some-lent = omega (arith, long-lent, z.some)
+  some_lent = omega (arith, long_lent, z.some)
 
-  pub fits : (last : ℕ) {b : List ℕ} → mapLen (with_last (lent s a) last) ≤ length b → EntryFits (lent s a) last b
+  pub fits : (last : ℕ) {b : List ℕ} → map_len (with_last (lent s a) last) ≤ length b → EntryFits (lent s a) last b
   unfolding room
   fits last h =
       record {
-        some = some-lent;
-        room = record { bytes = h; few = omega (arith, length-with-last (lent s a) last, long-lent, z.most) };
+        some = some_lent;
+        room = record { bytes = h; few = omega (arith, length_with_last (lent s a) last, long_lent, z.most) };
       }
 
   -- with the last word cut they are the words of the definition
-  pub layer-words-are : Words64 s → {last : ℕ} → last ≡ get_or (lent s a) (length (lent s a) - 1) 0 % 2 ^ room0 N (length (lent s a) - 1)
-      → with_last (lent s a) last ≡ toldWords N s
-  layer-words-are small {last} last-is =
+  pub layer_words_are : Words64 s → {last : ℕ} → last ≡ get_or (lent s a) (length (lent s a) - 1) 0 % 2 ^ room0 N (length (lent s a) - 1)
+      → with_last (lent s a) last ≡ told_words N s
+  layer_words_are small {last} last-is =
       ap (with_last (lent s a)) last-is
-      ∙ kept-with-last N (lent s a) z.some long-lent (λ x. rw (l.words, get_or-drop (layerStart N 0) s x 0) (small (layerStart N 0 + x)))
-      ∙ ap (keptFrom N 0) l.words
+      ∙ kept_with_last N (lent s a) z.some long_lent (λ x. rw (l.words, get_or-drop (layer_start N 0) s x 0) (small (layer_start N 0 + x)))
+      ∙ ap (kept_from N 0) l.words

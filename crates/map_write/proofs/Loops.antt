@@ -13,13 +13,13 @@ pub record Put (b₀ : List ℕ) (o n x : ℕ) (b : List ℕ) (i y : ℕ) : Type
   pub long : length b ≡ length b₀
   pub rest : sets b (o + i) (le (n - i) y) ≡ sets b₀ o (le n x)
 
-pub put-start : {b : List ℕ} {o n x : ℕ} → Put b o n x b 0 x
-put-start {b} {o} {n} {x} = record { upto = omega arith; long = refl; rest = rw (add-zero, sub-zero) }
+pub put_start : {b : List ℕ} {o n x : ℕ} → Put b o n x b 0 x
+put_start {b} {o} {n} {x} = record { upto = omega arith; long = refl; rest = rw (add-zero, sub-zero) }
 
 module _ {b₀ : List ℕ} {o n x : ℕ} {b : List ℕ} {i y : ℕ} (h : Put b₀ o n x b i y) where
-  pub put-turn : i < n → Put b₀ o n x (set b (o + i) (y % 256)) (i + 1) (y / 256)
+  pub put_turn : i < n → Put b₀ o n x (set b (o + i) (y % 256)) (i + 1) (y / 256)
   unfolding le
-  put-turn l =
+  put_turn l =
       let e : n - i ≡ suc (n - (i + 1)) = omega arith in
       let p : o + (i + 1) ≡ suc (o + i) = omega arith in
       record {
@@ -28,6 +28,6 @@ module _ {b₀ : List ℕ} {o n x : ℕ} {b : List ℕ} {i y : ℕ} (h : Put b�
         rest = rw p (sym (ap (λ (m : ℕ). sets b (o + i) (le m y)) e) ∙ h.rest);
       }
 
-  pub put-end : n ≤ i → b ≡ sets b₀ o (le n x)
+  pub put_end : n ≤ i → b ≡ sets b₀ o (le n x)
   unfolding le
-  put-end l = let e : n - i ≡ 0 = omega arith in sym (ap (λ (m : ℕ). sets b (o + i) (le m y)) e) ∙ h.rest
+  put_end l = let e : n - i ≡ 0 = omega arith in sym (ap (λ (m : ℕ). sets b (o + i) (le m y)) e) ∙ h.rest

@@ -17,5 +17,5 @@ abbrev same : (r : Wrote) → answer (wrote r) ≡ r
 same (Length n) = refl
 same (Refused n) = refl
 
-abbrev pub wrotePaper : Paper Wrote
-wrotePaper = record { numbers = wrote; answer = answer; same = same }
+abbrev pub wrote_paper : Paper Wrote
+wrote_paper = record { numbers = wrote; answer = answer; same = same }

@@ -7,18 +7,18 @@ use Rattle.store.specs.Build.{flag, layer0, room0}
 use Rattle.map_format.specs.Bytes.{le}
 
 -- the layer-0 words from number q on of a store of capacity N: "takes bits at or past N as absent"
-unfoldable pub keptFrom : ℕ → ℕ → List ℕ → List ℕ
-keptFrom N q [] = []
-keptFrom N q (w ∷ ws) = w % 2 ^ room0 N q ∷ keptFrom N (suc q) ws
+unfoldable pub kept_from : ℕ → ℕ → List ℕ → List ℕ
+kept_from N q [] = []
+kept_from N q (w ∷ ws) = w % 2 ^ room0 N q ∷ kept_from N (suc q) ws
 
 -- the words that a store s of capacity N has to tell of
-abbrev pub toldWords : ℕ → List ℕ → List ℕ
-toldWords N s = keptFrom N 0 (layer0 N s)
+abbrev pub told_words : ℕ → List ℕ → List ℕ
+told_words N s = kept_from N 0 (layer0 N s)
 
 -- "member count": the set bits of all words
-unfoldable pub countAll : List ℕ → ℕ
-countAll [] = 0
-countAll (w ∷ ws) = count w + countAll ws
+unfoldable pub count_all : List ℕ → ℕ
+count_all [] = 0
+count_all (w ∷ ws) = count w + count_all ws
 
 -- "word count W": the words that are not zero
 unfoldable pub used : List ℕ → ℕ
@@ -39,9 +39,9 @@ abbrev pub head_of : ℕ → ℕ → ℕ → List ℕ
 head_of N m u = le 4 N ++ le 4 m ++ le 4 u ++ le 4 16
 
 -- the map of the layer-0 words ws
-unfoldable pub mapOf : ℕ → List ℕ → List ℕ
-mapOf N ws = head_of N (countAll ws) (used ws) ++ entries 0 ws
+unfoldable pub map_of : ℕ → List ℕ → List ℕ
+map_of N ws = head_of N (count_all ws) (used ws) ++ entries 0 ws
 
 -- "Length 16+12W"
-abbrev pub mapLen : List ℕ → ℕ
-mapLen ws = 16 + 12 * used ws
+abbrev pub map_len : List ℕ → ℕ
+map_len ws = 16 + 12 * used ws

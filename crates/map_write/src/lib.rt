@@ -4,10 +4,10 @@ ghost use Rattle.std.proofs.lemmas.List.Edits.{sets};
 ghost use Rattle.util.specs.Outcome.{Settled};
 ghost use Rattle.map_format.specs.Bytes.{le};
 ghost use Rattle.map_format.specs.Steps.{with_last};
-ghost use Rattle.map_write.specs.Answer.{wrotePaper};
-ghost use Rattle.map_write.specs.Calls.{mapLengthOf, writeOf};
-ghost use Rattle.map_write.specs.Map.{head_of, mapOf, mapLen};
-ghost use Rattle.map_write.specs.Steps.{wordsFrom, draftAt, draftTo, Room, Rooms, EntryFits, Entered};
+ghost use Rattle.map_write.specs.Answer.{wrote_paper};
+ghost use Rattle.map_write.specs.Calls.{map_length_of, write_of};
+ghost use Rattle.map_write.specs.Map.{head_of, map_of, map_len};
+ghost use Rattle.map_write.specs.Steps.{words_from, draft_at, draft_to, Room, Rooms, EntryFits, Entered};
 
 // The length of the map, or the refusal's number.
 #[derive(Drop)]
@@ -40,8 +40,8 @@ struct Spot {
 
 // The entry of word q stands from o on, if the word is not zero, and its members are counted.
 fn put_entry(buf: &mut [u8], o: usize, q: usize, x: u64, members: u64) -> Spot
-    requires { Room (x ∷ []) (draftAt o members buf.old) }
-    ensures { Entered q (x ∷ []) (draftAt o members buf.old) (draftTo result buf.new) }
+    requires { Room (x ∷ []) (draft_at o members buf.old) }
+    ensures { Entered q (x ∷ []) (draft_at o members buf.old) (draft_to result buf.new) }
 {
     if x == 0 {
         return Spot { at: o, members };
@@ -55,8 +55,8 @@ fn put_entry(buf: &mut [u8], o: usize, q: usize, x: u64, members: u64) -> Spot
 
 // The entries of the n words from q on.
 fn put_entries(layer: &[u64], q: usize, n: usize, buf: &mut [u8], at: usize, sum: u64) -> Spot
-    requires { Rooms layer.now q n (draftAt at sum buf.old) }
-    ensures { Entered q (wordsFrom q n layer.now) (draftAt at sum buf.old) (draftTo result buf.new) }
+    requires { Rooms layer.now q n (draft_at at sum buf.old) }
+    ensures { Entered q (words_from q n layer.now) (draft_at at sum buf.old) (draft_to result buf.new) }
 {
     let mut members = sum;
     let mut o = at;
@@ -73,8 +73,8 @@ fn put_entries(layer: &[u64], q: usize, n: usize, buf: &mut [u8], at: usize, sum
 
 // The entries of the four words from q on. Where they are zero together none is looked at alone.
 fn put_four(layer: &[u64], q: usize, buf: &mut [u8], o: usize, members: u64) -> Spot
-    requires { Rooms layer.now q 4 (draftAt o members buf.old) }
-    ensures { Entered q (wordsFrom q 4 layer.now) (draftAt o members buf.old) (draftTo result buf.new) }
+    requires { Rooms layer.now q 4 (draft_at o members buf.old) }
+    ensures { Entered q (words_from q 4 layer.now) (draft_at o members buf.old) (draft_to result buf.new) }
 {
     if layer[q] | layer[q + 1] | layer[q + 2] | layer[q + 3] == 0 {
         return Spot { at: o, members };
@@ -84,9 +84,9 @@ fn put_four(layer: &[u64], q: usize, buf: &mut [u8], o: usize, members: u64) -> 
 
 // The entries of the first words, four a turn, behind the header's place.
 fn put_fours(layer: &[u64], fours: usize, buf: &mut [u8]) -> Spot
-    requires { Rooms layer.now 0 (4 * fours) (draftAt 16 0 buf.old) }
-    ensures { let ws = wordsFrom 0 (4 * fours) layer.now in
-        Entered 0 ws (draftAt 16 0 buf.old) (draftTo result buf.new) }
+    requires { Rooms layer.now 0 (4 * fours) (draft_at 16 0 buf.old) }
+    ensures { let ws = words_from 0 (4 * fours) layer.now in
+        Entered 0 ws (draft_at 16 0 buf.old) (draft_to result buf.new) }
 {
     let mut members = 0u64;
     let mut o = 16usize;
@@ -114,8 +114,8 @@ fn put_head(buf: &mut [u8], n: u64, members: u64, used: u64)
 // The entries of all words, and then the header in front of them; where the last one ends.
 fn put_map(layer: &[u64], last: u64, n: usize, buf: &mut [u8]) -> usize
     requires { EntryFits layer.now last buf.old }
-    ensures length { result ≡ mapLen (with_last layer.now last) }
-    ensures bytes { buf.new ≡ sets buf.old 0 (mapOf n (with_last layer.now last)) }
+    ensures length { result ≡ map_len (with_last layer.now last) }
+    ensures bytes { buf.new ≡ sets buf.old 0 (map_of n (with_last layer.now last)) }
 {
     let end = layer.len() - 1;
     let fours = end / 4;
@@ -129,7 +129,7 @@ fn put_map(layer: &[u64], last: u64, n: usize, buf: &mut [u8]) -> usize
 
 // How long the map of a store's members is: what `write` answers where the buffer has room, on an unsound store too.
 pub fn length(store: &[u64]) -> Wrote
-    ensures { Settled wrotePaper (mapLengthOf store.now) result tt }
+    ensures { Settled wrote_paper (map_length_of store.now) result tt }
 {
     let n = store::capacity(store);
     if n == 0 {
@@ -143,7 +143,7 @@ pub fn length(store: &[u64]) -> Wrote
 
 // Writes the map of a store's members over the front of buf. Layer 0 alone is read, so the map is right on an unsound store too.
 pub fn write(store: &[u64], buf: &mut [u8]) -> Wrote
-    ensures { Settled wrotePaper (writeOf store.now buf.old) result buf.new }
+    ensures { Settled wrote_paper (write_of store.now buf.old) result buf.new }
 {
     let n = store::capacity(store);
     if n == 0 {

@@ -12,22 +12,22 @@ use lib.Dec.{eqb, leb}
 use lib.ListN.{length, get_or, set, take, drop, length-set}
 use lib.Seq.{ext_get_or, get_or-set_same, get_or-set_other, take_all}
 use Rattle.util.specs.Word.{bit, flip, change, count}
-use Rattle.util.proofs.Bits.{bit-lt, bit-of-zero, bit_high, word-ext, change-same, change-other, change-lt, clear-minus}
+use Rattle.util.proofs.Bits.{bit_lt, bit_of_zero, bit_high, word_ext, change-same, change_other, change_lt, clear_minus}
 use Rattle.util.proofs.Same.{both}
 use Rattle.store.specs.Build.{flag, flags}
-use Rattle.store.proofs.Build.{flags-lt, bit-flags}
-use Rattle.ops_word.specs.Op.{opWord}
-use Rattle.ops_group.specs.Group.{mergeNamed, markNamed, all, isDense, groupWords, groupOver, Merging, Naming}
-use Rattle.ops_group.proofs.Named.{length-named, named-op, named_here, named-off, marked-on, marked-off, marked-lt, bit-all}
+use Rattle.store.proofs.Build.{flags_lt, bit-flags}
+use Rattle.ops_word.specs.Op.{op_word}
+use Rattle.ops_group.specs.Group.{merge_named, mark_named, all, is_dense, group_words, group_over, Merging, Naming}
+use Rattle.ops_group.proofs.Named.{length_named, named_op, named_here, named_off, marked_on, marked_off, marked_lt, bit-all}
 
 -- ---- every word merged
 
 pub merging_start : (op : ℕ) (xs ys : List ℕ) → Merging op xs ys xs 0
 merging_start op xs ys = record { upto = omega arith; long = refl; new = λ i h. absurd (omega arith); old = λ i h. refl }
 
-pub merging-turn : {op : ℕ} {xs ys zs : List ℕ} {t x : ℕ} → length xs ≡ 64 → t < 64 → Merging op xs ys zs t → x ≡ opWord op (get_or zs t 0) (get_or ys t 0)
+pub merging_turn : {op : ℕ} {xs ys zs : List ℕ} {t x : ℕ} → length xs ≡ 64 → t < 64 → Merging op xs ys zs t → x ≡ op_word op (get_or zs t 0) (get_or ys t 0)
     → Merging op xs ys (set zs t x) (suc t)
-merging-turn {op} {xs} {ys} {zs} {t} {x} full l v is =
+merging_turn {op} {xs} {ys} {zs} {t} {x} full l v is =
     record {
       upto = l;
       long = (simp length-set) ∙ v.long;
@@ -35,37 +35,37 @@ merging-turn {op} {xs} {ys} {zs} {t} {x} full l v is =
       old = λ i h. get_or-set_other zs t i x 0 (λ e. omega arith) ∙ v.old i (omega arith);
     }
   where
-    new : (i : ℕ) → i < suc t → Dec (i ≡ t) → get_or (set zs t x) i 0 ≡ opWord op (get_or xs i 0) (get_or ys i 0)
+    new : (i : ℕ) → i < suc t → Dec (i ≡ t) → get_or (set zs t x) i 0 ≡ op_word op (get_or xs i 0) (get_or ys i 0)
     new i h (yes p) =
         ap (λ (y : ℕ). get_or (set zs t x) y 0) p
         ∙ get_or-set_same zs t x 0 (omega (arith, v.long))
         ∙ is
-        ∙ ap (λ (y : ℕ). opWord op y (get_or ys t 0)) (v.old t (omega arith))
-        ∙ sym (ap (λ (y : ℕ). opWord op (get_or xs y 0) (get_or ys y 0)) p)
+        ∙ ap (λ (y : ℕ). op_word op y (get_or ys t 0)) (v.old t (omega arith))
+        ∙ sym (ap (λ (y : ℕ). op_word op (get_or xs y 0) (get_or ys y 0)) p)
     new i h (no n) = get_or-set_other zs t i x 0 n ∙ v.new i (omega arith)
 
-pub merging-end : {op : ℕ} {xs ys zs : List ℕ} {t : ℕ} → length xs ≡ 64 → 64 ≤ t → Merging op xs ys zs t → zs ≡ mergeNamed op all 0 xs ys
-merging-end {op} {xs} {ys} {zs} {t} full h v =
-    ext_get_or 0 zs (mergeNamed op all 0 xs ys) (v.long ∙ sym (length-named op all 0 xs ys))
+pub merging_end : {op : ℕ} {xs ys zs : List ℕ} {t : ℕ} → length xs ≡ 64 → 64 ≤ t → Merging op xs ys zs t → zs ≡ merge_named op all 0 xs ys
+merging_end {op} {xs} {ys} {zs} {t} full h v =
+    ext_get_or 0 zs (merge_named op all 0 xs ys) (v.long ∙ sym (length_named op all 0 xs ys))
     (λ i l.
     let j : i < 64 = omega (arith, v.long) in
     v.new i (omega arith) ∙ sym (named_here op all xs ys i (omega (arith, v.long)) (bit-all i j)))
 
 -- ---- the summary of a group
 
-pub flags-whole : (l : List ℕ) {w : ℕ} → length l ≡ 64 → w ≡ flags (take 64 (drop 0 l)) → w ≡ flags l
-flags-whole l {w} full e = e ∙ ap flags (take_all 64 l (omega arith))
+pub flags_whole : (l : List ℕ) {w : ℕ} → length l ≡ 64 → w ≡ flags (take 64 (drop 0 l)) → w ≡ flags l
+flags_whole l {w} full e = e ∙ ap flags (take_all 64 l (omega arith))
 
 -- the word above a group that was merged whole
-pub marked_all : (zs : List ℕ) (w : ℕ) → length zs ≡ 64 → markNamed all zs w ≡ flags zs
+pub marked_all : (zs : List ℕ) (w : ℕ) → length zs ≡ 64 → mark_named all zs w ≡ flags zs
 marked_all zs w full =
-    word-ext (markNamed all zs w) (flags zs) (marked-lt all zs w (omega arith)) (subst (λ (n : ℕ). flags zs < 2 ^ n) full (flags-lt zs))
-    (λ i h. marked-on all zs w i (omega arith) h (bit-all i h) ∙ sym (bit-flags zs i))
+    word_ext (mark_named all zs w) (flags zs) (marked_lt all zs w (omega arith)) (subst (λ (n : ℕ). flags zs < 2 ^ n) full (flags_lt zs))
+    (λ i h. marked_on all zs w i (omega arith) h (bit-all i h) ∙ sym (bit-flags zs i))
 
 -- ---- the words that are named, one by one
 
-pub naming-start : (op : ℕ) (xs ys : List ℕ) (w m : ℕ) → w < 2 ^ 64 → m < 2 ^ 64 → Naming op xs ys w m xs w m
-naming-start op xs ys w m h g = record { few = g; small = h; long = refl; words = refl; over = refl }
+pub naming_start : (op : ℕ) (xs ys : List ℕ) (w m : ℕ) → w < 2 ^ 64 → m < 2 ^ 64 → Naming op xs ys w m xs w m
+naming_start op xs ys w m h g = record { few = g; small = h; long = refl; words = refl; over = refl }
 
 -- the flag of a word as the code has it
 flag_is : (z : ℕ) → ◌≡◌ {A = ℕ} (cond (not (eqb z 0)) 1 0) (flag z)
@@ -79,7 +79,7 @@ module _ {op : ℕ} {xs ys : List ℕ} {w m : ℕ} {zs : List ℕ} {v n : ℕ} (
   module _ (t : ℕ) (l : t < 64) (on : bit n t ≡ 1) where
     -- the word, the group, the word above and what is still named, after the turn
     abbrev x : ℕ
-    x = opWord op (get_or zs t 0) (get_or ys t 0)
+    x = op_word op (get_or zs t 0) (get_or ys t 0)
 
     abbrev us : List ℕ
     us = set zs t x
@@ -94,7 +94,7 @@ module _ {op : ℕ} {xs ys : List ℕ} {w m : ℕ} {zs : List ℕ} {v n : ℕ} (
     n' = change false n t
 
     few' : n' < 2 ^ 64
-    few' = change-lt false n t l h.few
+    few' = change_lt false n t l h.few
 
     off : bit n' t ≡ 0
     off = change-same false n t l
@@ -103,75 +103,75 @@ module _ {op : ℕ} {xs ys : List ℕ} {w m : ℕ} {zs : List ℕ} {v n : ℕ} (
     rest i ne = go (dec_lt i 64)
       where
         go : Dec (i < 64) → bit n' i ≡ bit n i
-        go (yes g) = change-other false n t l i g ne
+        go (yes g) = change_other false n t l i g ne
         go (no g) = bit_high 64 n' i few' (omega arith) ∙ sym (bit_high 64 n i h.few (omega arith))
 
-    same-words : mergeNamed op n' 0 us ys ≡ mergeNamed op n 0 zs ys
+    same-words : merge_named op n' 0 us ys ≡ merge_named op n 0 zs ys
     same-words =
-        ext_get_or 0 (mergeNamed op n' 0 us ys) (mergeNamed op n 0 zs ys) (length-named op n' 0 us ys ∙ length-set zs t x ∙ sym (length-named op n 0 zs ys))
+        ext_get_or 0 (merge_named op n' 0 us ys) (merge_named op n 0 zs ys) (length_named op n' 0 us ys ∙ length-set zs t x ∙ sym (length_named op n 0 zs ys))
         (λ i g.
-        let k : i < length zs = omega (arith, length-named op n' 0 us ys, length-set zs t x) in
+        let k : i < length zs = omega (arith, length_named op n' 0 us ys, length-set zs t x) in
         at i k (ℕ_discrete i t))
       where
-        at : (i : ℕ) → i < length zs → Dec (i ≡ t) → get_or (mergeNamed op n' 0 us ys) i 0 ≡ get_or (mergeNamed op n 0 zs ys) i 0
+        at : (i : ℕ) → i < length zs → Dec (i ≡ t) → get_or (merge_named op n' 0 us ys) i 0 ≡ get_or (merge_named op n 0 zs ys) i 0
         at i k (yes p) =
-            subst (λ (y : ℕ). get_or (mergeNamed op n' 0 us ys) y 0 ≡ get_or (mergeNamed op n 0 zs ys) y 0) (sym p)
+            subst (λ (y : ℕ). get_or (merge_named op n' 0 us ys) y 0 ≡ get_or (merge_named op n 0 zs ys) y 0) (sym p)
             (let g : t < length zs = omega arith in
-            named-off op n' us ys t off ∙ get_or-set_same zs t x 0 g ∙ sym (named_here op n zs ys t g on))
+            named_off op n' us ys t off ∙ get_or-set_same zs t x 0 g ∙ sym (named_here op n zs ys t g on))
         at i k (no ne) = go (bit n i) refl
           where
             old : get_or us i 0 ≡ get_or zs i 0
             old = get_or-set_other zs t i x 0 ne
 
-            go : (b : ℕ) → bit n i ≡ b → get_or (mergeNamed op n' 0 us ys) i 0 ≡ get_or (mergeNamed op n 0 zs ys) i 0
-            go zero e = named-off op n' us ys i (rest i ne ∙ e) ∙ old ∙ sym (named-off op n zs ys i e)
+            go : (b : ℕ) → bit n i ≡ b → get_or (merge_named op n' 0 us ys) i 0 ≡ get_or (merge_named op n 0 zs ys) i 0
+            go zero e = named_off op n' us ys i (rest i ne ∙ e) ∙ old ∙ sym (named_off op n zs ys i e)
             go (suc b) e =
-                let o : bit n i ≡ 1 = omega (arith, bit-lt n i) in
+                let o : bit n i ≡ 1 = omega (arith, bit_lt n i) in
                 named_here op n' us ys i (omega (arith, length-set zs t x)) (rest i ne ∙ o)
-                ∙ ap (λ (y : ℕ). opWord op y (get_or ys i 0)) old ∙ sym (named_here op n zs ys i k o)
+                ∙ ap (λ (y : ℕ). op_word op y (get_or ys i 0)) old ∙ sym (named_here op n zs ys i k o)
 
     abbrev Z : List ℕ
-    Z = mergeNamed op m 0 xs ys
+    Z = merge_named op m 0 xs ys
 
     here : get_or Z t 0 ≡ z
-    here = ap (λ (q : List ℕ). get_or q t 0) (sym (same-words ∙ h.words)) ∙ named-off op n' us ys t off
+    here = ap (λ (q : List ℕ). get_or q t 0) (sym (same-words ∙ h.words)) ∙ named_off op n' us ys t off
 
-    same_over : markNamed n' Z v' ≡ markNamed n Z v
+    same_over : mark_named n' Z v' ≡ mark_named n Z v
     same_over =
-        word-ext (markNamed n' Z v') (markNamed n Z v) (marked-lt n' Z v' few') (marked-lt n Z v h.few) (λ i g. at i g (ℕ_discrete i t))
+        word_ext (mark_named n' Z v') (mark_named n Z v) (marked_lt n' Z v' few') (marked_lt n Z v h.few) (λ i g. at i g (ℕ_discrete i t))
       where
-        at : (i : ℕ) → i < 64 → Dec (i ≡ t) → bit (markNamed n' Z v') i ≡ bit (markNamed n Z v) i
+        at : (i : ℕ) → i < 64 → Dec (i ≡ t) → bit (mark_named n' Z v') i ≡ bit (mark_named n Z v) i
         at i g (yes p) =
-            subst (λ (y : ℕ). bit (markNamed n' Z v') y ≡ bit (markNamed n Z v) y) (sym p)
-            (marked-off n' Z v' t few' l off ∙ change-same (not (eqb z 0)) v t l ∙ flag_is z ∙ ap flag (sym here)
-            ∙ sym (marked-on n Z v t h.few l on))
+            subst (λ (y : ℕ). bit (mark_named n' Z v') y ≡ bit (mark_named n Z v) y) (sym p)
+            (marked_off n' Z v' t few' l off ∙ change-same (not (eqb z 0)) v t l ∙ flag_is z ∙ ap flag (sym here)
+            ∙ sym (marked_on n Z v t h.few l on))
         at i g (no ne) = go (bit n i) refl
           where
-            go : (b : ℕ) → bit n i ≡ b → bit (markNamed n' Z v') i ≡ bit (markNamed n Z v) i
+            go : (b : ℕ) → bit n i ≡ b → bit (mark_named n' Z v') i ≡ bit (mark_named n Z v) i
             go zero e =
-                marked-off n' Z v' i few' g (rest i ne ∙ e) ∙ change-other (not (eqb z 0)) v t l i g ne
-                ∙ sym (marked-off n Z v i h.few g e)
+                marked_off n' Z v' i few' g (rest i ne ∙ e) ∙ change_other (not (eqb z 0)) v t l i g ne
+                ∙ sym (marked_off n Z v i h.few g e)
             go (suc b) e =
-                let o : bit n i ≡ 1 = omega (arith, bit-lt n i) in
-                marked-on n' Z v' i few' g (rest i ne ∙ o) ∙ sym (marked-on n Z v i h.few g o)
+                let o : bit n i ≡ 1 = omega (arith, bit_lt n i) in
+                marked_on n' Z v' i few' g (rest i ne ∙ o) ∙ sym (marked_on n Z v i h.few g o)
 
     turned : Naming op xs ys w m us v' n'
     turned =
         record {
           few = few';
-          small = change-lt (not (eqb z 0)) v t l h.small;
+          small = change_lt (not (eqb z 0)) v t l h.small;
           long = length-set zs t x ∙ h.long;
           words = same-words ∙ h.words;
           over = same_over ∙ h.over;
         }
 
   -- as the code has it
-  pub naming-turn : {t : ℕ} {ts : List ℕ} {r v₁ n₁ : ℕ} → t < 64 → bit n t ≡ 1 → ts ≡ set zs t (opWord op (get_or zs t 0) (get_or ys t 0)) → r ≡ get_or ts t 0
+  pub naming_turn : {t : ℕ} {ts : List ℕ} {r v₁ n₁ : ℕ} → t < 64 → bit n t ≡ 1 → ts ≡ set zs t (op_word op (get_or zs t 0) (get_or ys t 0)) → r ≡ get_or ts t 0
       → v₁ ≡ change (not (eqb r 0)) v (t % 64) → n₁ ≡ change false n (t % 64) → Naming op xs ys w m ts v₁ n₁
-  naming-turn {t} {ts} {r} {v₁} {n₁} l on ts-is r-is v-is n-is =
+  naming_turn {t} {ts} {r} {v₁} {n₁} l on ts-is r-is v-is n-is =
       let q : t % 64 ≡ t = omega arith in
-      let rz : r ≡ get_or (set zs t (opWord op (get_or zs t 0) (get_or ys t 0))) t 0 = r-is ∙ ap (λ (y : List ℕ). get_or y t 0) ts-is in
-      let X : List ℕ = set zs t (opWord op (get_or zs t 0) (get_or ys t 0)) in
+      let rz : r ≡ get_or (set zs t (op_word op (get_or zs t 0) (get_or ys t 0))) t 0 = r-is ∙ ap (λ (y : List ℕ). get_or y t 0) ts-is in
+      let X : List ℕ = set zs t (op_word op (get_or zs t 0) (get_or ys t 0)) in
       let W : ℕ = change (not (eqb (get_or X t 0) 0)) v t in
       let ev : v₁ ≡ W = v-is ∙ ap₂ (λ (a b : ℕ). change (not (eqb a 0)) v b) rz q in
       let en : n₁ ≡ change false n t = n-is ∙ ap (change false n) q in
@@ -179,21 +179,21 @@ module _ {op : ℕ} {xs ys : List ℕ} {w m : ℕ} {zs : List ℕ} {v n : ℕ} (
       (subst (λ (y : ℕ). Naming op xs ys w m ts W y) (sym en)
       (subst (λ (y : List ℕ). Naming op xs ys w m y W (change false n t)) (sym ts-is) (turned t l on)))
 
-  pub naming-words : n ≡ 0 → zs ≡ mergeNamed op m 0 xs ys
-  naming-words e =
-      ext_get_or 0 zs (mergeNamed op m 0 xs ys) (h.long ∙ sym (length-named op m 0 xs ys))
-      (λ i l. sym (named-off op n zs ys i (ap (λ (y : ℕ). bit y i) e ∙ bit-of-zero i)) ∙ ap (λ (q : List ℕ). get_or q i 0) h.words)
+  pub naming_words : n ≡ 0 → zs ≡ merge_named op m 0 xs ys
+  naming_words e =
+      ext_get_or 0 zs (merge_named op m 0 xs ys) (h.long ∙ sym (length_named op m 0 xs ys))
+      (λ i l. sym (named_off op n zs ys i (ap (λ (y : ℕ). bit y i) e ∙ bit_of_zero i)) ∙ ap (λ (q : List ℕ). get_or q i 0) h.words)
 
-  pub naming-over : n ≡ 0 → v ≡ markNamed m (mergeNamed op m 0 xs ys) w
-  naming-over e =
-      word-ext v (markNamed n (mergeNamed op m 0 xs ys) v) h.small (marked-lt n (mergeNamed op m 0 xs ys) v h.few)
-      (λ i l. sym (marked-off n (mergeNamed op m 0 xs ys) v i h.few l (ap (λ (y : ℕ). bit y i) e ∙ bit-of-zero i)))
+  pub naming_over : n ≡ 0 → v ≡ mark_named m (merge_named op m 0 xs ys) w
+  naming_over e =
+      word_ext v (mark_named n (merge_named op m 0 xs ys) v) h.small (marked_lt n (merge_named op m 0 xs ys) v h.few)
+      (λ i l. sym (marked_off n (merge_named op m 0 xs ys) v i h.few l (ap (λ (y : ℕ). bit y i) e ∙ bit_of_zero i)))
       ∙ h.over
 
 -- the lowest word is taken off, as the code has it
-pub taken-off : {n n₁ t : ℕ} → n < 2 ^ 64 → t < 64 → bit n t ≡ 1 → n₁ ≡ n - 2 ^ t → n₁ ≡ change false n (t % 64)
+pub taken_off : {n n₁ t : ℕ} → n < 2 ^ 64 → t < 64 → bit n t ≡ 1 → n₁ ≡ n - 2 ^ t → n₁ ≡ change false n (t % 64)
 unfolding change
-taken-off {n} {n₁} {t} h l on e = let q : t ≡ t % 64 = omega arith in e ∙ sym (clear-minus n t h l on) ∙ ap (change false n) q
+taken_off {n} {n₁} {t} h l on e = let q : t ≡ t % 64 = omega arith in e ∙ sym (clear_minus n t h l on) ∙ ap (change false n) q
 
 -- each turn leaves less
 pub less-left : {n n₁ t : ℕ} → t < 64 → bit n t ≡ 1 → n₁ ≡ change false n (t % 64) → n₁ < n
@@ -205,45 +205,45 @@ less-left {n} {n₁} {t} l on e =
 
 -- ---- the two ways out of `group`
 
-pub dense-long : (n l m : ℕ) → isDense n l m ≡ true → (n ≡ 64) × (l ≡ 64)
-unfolding isDense
-dense-long n l m e =
+pub dense_long : (n l m : ℕ) → is_dense n l m ≡ true → (n ≡ 64) × (l ≡ 64)
+unfolding is_dense
+dense_long n l m e =
     let a = both (eqb n 64) (eqb l 64 && leb 12 (count m)) e in
     let b = both (eqb l 64) (leb 12 (count m)) a.1 in
     (eqb-true n 64 a.0, eqb-true l 64 b.0)
 
 module _ (op : ℕ) (xs ys : List ℕ) (w m : ℕ) (zs : List ℕ) where
-  pub dense-out : (r : ℕ) → isDense (length xs) (length ys) m ≡ true → zs ≡ mergeNamed op all 0 xs ys → r ≡ flags zs
-      → (zs ≡ groupWords op xs ys m) × (r ≡ groupOver op xs ys w m)
-  unfolding groupWords groupOver
-  dense-out r d e f =
+  pub dense_out : (r : ℕ) → is_dense (length xs) (length ys) m ≡ true → zs ≡ merge_named op all 0 xs ys → r ≡ flags zs
+      → (zs ≡ group_words op xs ys m) × (r ≡ group_over op xs ys w m)
+  unfolding group_words group_over
+  dense_out r d e f =
       rw d (
         e,
-        f ∙ sym (marked_all zs w (ap length e ∙ length-named op all 0 xs ys ∙ (dense-long (length xs) (length ys) m d).0))
-            ∙ ap (λ (q : List ℕ). markNamed all q w) e,
+        f ∙ sym (marked_all zs w (ap length e ∙ length_named op all 0 xs ys ∙ (dense_long (length xs) (length ys) m d).0))
+            ∙ ap (λ (q : List ℕ). mark_named all q w) e,
       )
 
-  pub sparse-out : (v : ℕ) → isDense (length xs) (length ys) m ≡ false → zs ≡ mergeNamed op m 0 xs ys → v ≡ markNamed m (mergeNamed op m 0 xs ys) w
-      → (zs ≡ groupWords op xs ys m) × (v ≡ groupOver op xs ys w m)
-  unfolding groupWords groupOver
-  sparse-out v d e f = rw d (e, f)
+  pub sparse_out : (v : ℕ) → is_dense (length xs) (length ys) m ≡ false → zs ≡ merge_named op m 0 xs ys → v ≡ mark_named m (merge_named op m 0 xs ys) w
+      → (zs ≡ group_words op xs ys m) × (v ≡ group_over op xs ys w m)
+  unfolding group_words group_over
+  sparse_out v d e f = rw d (e, f)
 
 -- a group that is not full is not dense
-pub short-sparse : (n l m : ℕ) → n ≢ 64 → isDense n l m ≡ false
-unfolding isDense
-short-sparse n l m h = rw (ne_eqb n 64 h) refl
+pub short_sparse : (n l m : ℕ) → n ≢ 64 → is_dense n l m ≡ false
+unfolding is_dense
+short_sparse n l m h = rw (ne_eqb n 64 h) refl
 
 -- what is done by another number of the same operation
-pub same_op : (op o : ℕ) (w m : ℕ) (xs ys : List ℕ) {zs : List ℕ} {v : ℕ} → ((x y : ℕ) → opWord o x y ≡ opWord op x y)
-    → (zs ≡ mergeNamed o m 0 xs ys) × (v ≡ markNamed m (mergeNamed o m 0 xs ys) w) → (zs ≡ mergeNamed op m 0 xs ys) × (v ≡ markNamed m (mergeNamed op m 0 xs ys) w)
+pub same_op : (op o : ℕ) (w m : ℕ) (xs ys : List ℕ) {zs : List ℕ} {v : ℕ} → ((x y : ℕ) → op_word o x y ≡ op_word op x y)
+    → (zs ≡ merge_named o m 0 xs ys) × (v ≡ mark_named m (merge_named o m 0 xs ys) w) → (zs ≡ merge_named op m 0 xs ys) × (v ≡ mark_named m (merge_named op m 0 xs ys) w)
 same_op op o w m xs ys {zs} {v} e h =
-    let f = named-op op o m 0 xs ys e in
-    (h.0 ∙ f, h.1 ∙ ap (λ (q : List ℕ). markNamed m q w) f)
+    let f = named_op op o m 0 xs ys e in
+    (h.0 ∙ f, h.1 ∙ ap (λ (q : List ℕ). mark_named m q w) f)
 
-pub op-equal : (op o : ℕ) → op ≡ o → (x y : ℕ) → opWord o x y ≡ opWord op x y
-op-equal op o e x y = ap (λ (q : ℕ). opWord q x y) (sym e)
+pub op_equal : (op o : ℕ) → op ≡ o → (x y : ℕ) → op_word o x y ≡ op_word op x y
+op_equal op o e x y = ap (λ (q : ℕ). op_word q x y) (sym e)
 
 -- what is neither and nor or counts as xor
-pub op-else : (op : ℕ) → op ≢ 16 → op ≢ 17 → (x y : ℕ) → opWord 18 x y ≡ opWord op x y
-unfolding opWord
-op-else op h g x y = rw (ne_eqb op 16 h, ne_eqb op 17 g) refl
+pub op_else : (op : ℕ) → op ≢ 16 → op ≢ 17 → (x y : ℕ) → op_word 18 x y ≡ op_word op x y
+unfolding op_word
+op_else op h g x y = rw (ne_eqb op 16 h, ne_eqb op 17 g) refl

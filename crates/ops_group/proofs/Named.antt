@@ -11,132 +11,132 @@ use lib.Bits.{bit_and, and_le_l, and_le_r, or_lt}
 use lib.Dec.{eqb}
 use lib.ListN.{length, get_or, get_or-eq_default}
 use Rattle.util.specs.Word.{bit, flip}
-use Rattle.util.proofs.Bits.{bit-lt, bit-or, bit-and, bit-flip, bit-of-zero}
+use Rattle.util.proofs.Bits.{bit_lt, bit-bit_or, bit-bit_and, bit-flip, bit_of_zero}
 use Rattle.store.specs.Build.{flag, flags}
-use Rattle.store.proofs.Build.{flag-lt, flag-on, bit-flags}
-use Rattle.ops_word.specs.Op.{opWord, decider}
-use Rattle.ops_word.proofs.Op.{op-still, op-none}
-use Rattle.ops_group.specs.Group.{mergeNamed, markNamed, all, isDense, chosen, groupWords, groupOver}
+use Rattle.store.proofs.Build.{flag_lt, flag-on, bit-flags}
+use Rattle.ops_word.specs.Op.{op_word, decider}
+use Rattle.ops_word.proofs.Op.{op_still, op_none}
+use Rattle.ops_group.specs.Group.{merge_named, mark_named, all, is_dense, chosen, group_words, group_over}
 
-pub length-named : (op m i : ℕ) (xs ys : List ℕ) → length (mergeNamed op m i xs ys) ≡ length xs
-unfolding mergeNamed
-length-named op m i [] ys = refl
-length-named op m i (x ∷ xs) ys = ap suc (length-named op m (suc i) xs ys)
+pub length_named : (op m i : ℕ) (xs ys : List ℕ) → length (merge_named op m i xs ys) ≡ length xs
+unfolding merge_named
+length_named op m i [] ys = refl
+length_named op m i (x ∷ xs) ys = ap suc (length_named op m (suc i) xs ys)
 
 -- two numbers of one operation
-pub named-op : (op o m i : ℕ) (xs ys : List ℕ) → ((x y : ℕ) → opWord o x y ≡ opWord op x y) → mergeNamed o m i xs ys ≡ mergeNamed op m i xs ys
-unfolding mergeNamed
-named-op op o m i [] ys e = refl
-named-op op o m i (x ∷ xs) ys e =
-    ap₂ (λ (z : ℕ) (zs : List ℕ). cond (eqb (bit m i) 1) z x ∷ zs) (e x (get_or ys i 0)) (named-op op o m (suc i) xs ys e)
+pub named_op : (op o m i : ℕ) (xs ys : List ℕ) → ((x y : ℕ) → op_word o x y ≡ op_word op x y) → merge_named o m i xs ys ≡ merge_named op m i xs ys
+unfolding merge_named
+named_op op o m i [] ys e = refl
+named_op op o m i (x ∷ xs) ys e =
+    ap₂ (λ (z : ℕ) (zs : List ℕ). cond (eqb (bit m i) 1) z x ∷ zs) (e x (get_or ys i 0)) (named_op op o m (suc i) xs ys e)
 
 -- word j of the group
-named-from : (op m i : ℕ) (xs ys : List ℕ) (j : ℕ) → j < length xs
-    → get_or (mergeNamed op m i xs ys) j 0 ≡ cond (eqb (bit m (i + j)) 1) (opWord op (get_or xs j 0) (get_or ys (i + j) 0)) (get_or xs j 0)
-unfolding mergeNamed
-named-from op m i [] ys j h = absurd (omega arith)
-named-from op m i (x ∷ xs) ys zero h = ap (λ (y : ℕ). cond (eqb (bit m y) 1) (opWord op x (get_or ys y 0)) x) (sym (add-zero i))
-named-from op m i (x ∷ xs) ys (suc j) h =
+named_from : (op m i : ℕ) (xs ys : List ℕ) (j : ℕ) → j < length xs
+    → get_or (merge_named op m i xs ys) j 0 ≡ cond (eqb (bit m (i + j)) 1) (op_word op (get_or xs j 0) (get_or ys (i + j) 0)) (get_or xs j 0)
+unfolding merge_named
+named_from op m i [] ys j h = absurd (omega arith)
+named_from op m i (x ∷ xs) ys zero h = ap (λ (y : ℕ). cond (eqb (bit m y) 1) (op_word op x (get_or ys y 0)) x) (sym (add-zero i))
+named_from op m i (x ∷ xs) ys (suc j) h =
     let e : suc i + j ≡ i + suc j = omega arith in
-    named-from op m (suc i) xs ys j (omega arith)
-    ∙ ap (λ (y : ℕ). cond (eqb (bit m y) 1) (opWord op (get_or xs j 0) (get_or ys y 0)) (get_or xs j 0)) e
+    named_from op m (suc i) xs ys j (omega arith)
+    ∙ ap (λ (y : ℕ). cond (eqb (bit m y) 1) (op_word op (get_or xs j 0) (get_or ys y 0)) (get_or xs j 0)) e
 
 module _ (op m : ℕ) (xs ys : List ℕ) (j : ℕ) where
-  at : j < length xs → (b : Bool) → eqb (bit m j) 1 ≡ b → get_or (mergeNamed op m 0 xs ys) j 0 ≡ cond b (opWord op (get_or xs j 0) (get_or ys j 0)) (get_or xs j 0)
+  at : j < length xs → (b : Bool) → eqb (bit m j) 1 ≡ b → get_or (merge_named op m 0 xs ys) j 0 ≡ cond b (op_word op (get_or xs j 0) (get_or ys j 0)) (get_or xs j 0)
   at h b e =
       let z : 0 + j ≡ j = omega arith in
-      named-from op m 0 xs ys j h
-      ∙ ap (λ (y : ℕ). cond (eqb (bit m y) 1) (opWord op (get_or xs j 0) (get_or ys y 0)) (get_or xs j 0)) z
-      ∙ ap (λ (q : Bool). cond q (opWord op (get_or xs j 0) (get_or ys j 0)) (get_or xs j 0)) e
+      named_from op m 0 xs ys j h
+      ∙ ap (λ (y : ℕ). cond (eqb (bit m y) 1) (op_word op (get_or xs j 0) (get_or ys y 0)) (get_or xs j 0)) z
+      ∙ ap (λ (q : Bool). cond q (op_word op (get_or xs j 0) (get_or ys j 0)) (get_or xs j 0)) e
 
-  past : length xs ≤ j → get_or (mergeNamed op m 0 xs ys) j 0 ≡ 0
-  past h = get_or-eq_default (mergeNamed op m 0 xs ys) 0 (omega (arith, length-named op m 0 xs ys))
+  past : length xs ≤ j → get_or (merge_named op m 0 xs ys) j 0 ≡ 0
+  past h = get_or-eq_default (merge_named op m 0 xs ys) 0 (omega (arith, length_named op m 0 xs ys))
 
-  pub named_here : j < length xs → bit m j ≡ 1 → get_or (mergeNamed op m 0 xs ys) j 0 ≡ opWord op (get_or xs j 0) (get_or ys j 0)
+  pub named_here : j < length xs → bit m j ≡ 1 → get_or (merge_named op m 0 xs ys) j 0 ≡ op_word op (get_or xs j 0) (get_or ys j 0)
   named_here h e = at h true (rw e)
 
-  pub named-on : length ys ≤ length xs → bit m j ≡ 1 → get_or (mergeNamed op m 0 xs ys) j 0 ≡ opWord op (get_or xs j 0) (get_or ys j 0)
-  named-on short e = go (dec_lt j (length xs))
+  pub named_on : length ys ≤ length xs → bit m j ≡ 1 → get_or (merge_named op m 0 xs ys) j 0 ≡ op_word op (get_or xs j 0) (get_or ys j 0)
+  named_on short e = go (dec_lt j (length xs))
     where
-      go : Dec (j < length xs) → get_or (mergeNamed op m 0 xs ys) j 0 ≡ opWord op (get_or xs j 0) (get_or ys j 0)
+      go : Dec (j < length xs) → get_or (merge_named op m 0 xs ys) j 0 ≡ op_word op (get_or xs j 0) (get_or ys j 0)
       go (yes h) = named_here h e
       go (no h) =
-          past (omega arith) ∙ sym (op-none op)
-          ∙ sym (ap₂ (opWord op) (get_or-eq_default xs 0 (omega arith)) (get_or-eq_default ys 0 (omega arith)))
+          past (omega arith) ∙ sym (op_none op)
+          ∙ sym (ap₂ (op_word op) (get_or-eq_default xs 0 (omega arith)) (get_or-eq_default ys 0 (omega arith)))
 
-  pub named-off : bit m j ≡ 0 → get_or (mergeNamed op m 0 xs ys) j 0 ≡ get_or xs j 0
-  named-off e = go (dec_lt j (length xs))
+  pub named_off : bit m j ≡ 0 → get_or (merge_named op m 0 xs ys) j 0 ≡ get_or xs j 0
+  named_off e = go (dec_lt j (length xs))
     where
-      go : Dec (j < length xs) → get_or (mergeNamed op m 0 xs ys) j 0 ≡ get_or xs j 0
+      go : Dec (j < length xs) → get_or (merge_named op m 0 xs ys) j 0 ≡ get_or xs j 0
       go (yes h) = at h false (rw e)
       go (no h) = past (omega arith) ∙ sym (get_or-eq_default xs 0 (omega arith))
 
 -- bit i of the word above
 module _ (m : ℕ) (zs : List ℕ) (w i : ℕ) (small : m < 2 ^ 64) (h : i < 64) where
-  bit-marked : bit (markNamed m zs w) i ≡ max (min (bit w i) (1 - bit m i)) (min (bit m i) (flag (get_or zs i 0)))
-  unfolding markNamed
-  bit-marked =
-      bit-or (bit_and w (flip m)) (bit_and m (flags zs)) i
+  bit_marked : bit (mark_named m zs w) i ≡ max (min (bit w i) (1 - bit m i)) (min (bit m i) (flag (get_or zs i 0)))
+  unfolding mark_named
+  bit_marked =
+      bit-bit_or (bit_and w (flip m)) (bit_and m (flags zs)) i
       ∙ ap₂ max
-      (bit-and w (flip m) i ∙ ap (min (bit w i)) (bit-flip m i small h))
-      (bit-and m (flags zs) i ∙ ap (min (bit m i)) (bit-flags zs i))
+      (bit-bit_and w (flip m) i ∙ ap (min (bit w i)) (bit-flip m i small h))
+      (bit-bit_and m (flags zs) i ∙ ap (min (bit m i)) (bit-flags zs i))
 
-  pub marked-on : bit m i ≡ 1 → bit (markNamed m zs w) i ≡ flag (get_or zs i 0)
-  marked-on e = bit-marked ∙ omega (arith, flag-lt (get_or zs i 0))
+  pub marked_on : bit m i ≡ 1 → bit (mark_named m zs w) i ≡ flag (get_or zs i 0)
+  marked_on e = bit_marked ∙ omega (arith, flag_lt (get_or zs i 0))
 
-  pub marked-off : bit m i ≡ 0 → bit (markNamed m zs w) i ≡ bit w i
-  marked-off e = bit-marked ∙ omega (arith, bit-lt w i)
+  pub marked_off : bit m i ≡ 0 → bit (mark_named m zs w) i ≡ bit w i
+  marked_off e = bit_marked ∙ omega (arith, bit_lt w i)
 
-pub marked-lt : (m : ℕ) (zs : List ℕ) (w : ℕ) → m < 2 ^ 64 → markNamed m zs w < 2 ^ 64
-unfolding markNamed
-marked-lt m zs w h =
+pub marked_lt : (m : ℕ) (zs : List ℕ) (w : ℕ) → m < 2 ^ 64 → mark_named m zs w < 2 ^ 64
+unfolding mark_named
+marked_lt m zs w h =
     or_lt 64 (bit_and w (flip m)) (bit_and m (flags zs)) (omega (arith, and_le_r w (flip m))) (omega (arith, and_le_l m (flags zs)))
 
 pub bit-all : (i : ℕ) → i < 64 → bit all i ≡ 1
-bit-all i h = bit-flip 0 i (omega arith) h ∙ ap (λ (x : ℕ). 1 - x) (bit-of-zero i)
+bit-all i h = bit-flip 0 i (omega arith) h ∙ ap (λ (x : ℕ). 1 - x) (bit_of_zero i)
 
 -- ---- A GROUP in which no word that is not named needs to change, and whose word above is right there: all words are merged, and the
 -- word above is right
 module _ (op : ℕ) (xs ys : List ℕ) (w m : ℕ) (small : m < 2 ^ 64) where
-  chosen-lt : chosen xs ys m < 2 ^ 64
-  chosen-lt = go (isDense (length xs) (length ys) m)
+  chosen_lt : chosen xs ys m < 2 ^ 64
+  chosen_lt = go (is_dense (length xs) (length ys) m)
     where
       go : (b : Bool) → cond b all m < 2 ^ 64
       go true = omega arith
       go false = small
 
   -- what is not chosen is not named
-  chosen-off : (i : ℕ) → i < 64 → bit (chosen xs ys m) i ≡ 0 → bit m i ≡ 0
-  chosen-off i h = go (isDense (length xs) (length ys) m)
+  chosen_off : (i : ℕ) → i < 64 → bit (chosen xs ys m) i ≡ 0 → bit m i ≡ 0
+  chosen_off i h = go (is_dense (length xs) (length ys) m)
     where
       go : (b : Bool) → bit (cond b all m) i ≡ 0 → bit m i ≡ 0
       go true e = absurd (omega (arith, bit-all i h))
       go false e = e
 
-  pub length-group : length (groupWords op xs ys m) ≡ length xs
-  unfolding groupWords
-  length-group = length-named op (chosen xs ys m) 0 xs ys
+  pub length_group : length (group_words op xs ys m) ≡ length xs
+  unfolding group_words
+  length_group = length_named op (chosen xs ys m) 0 xs ys
 
   module _ (i : ℕ) (h : i < 64) where
-    pub words-at : length ys ≤ length xs → (bit m i ≡ 0 → decider op (get_or xs i 0) (get_or ys i 0) ≡ 0)
-        → get_or (groupWords op xs ys m) i 0 ≡ opWord op (get_or xs i 0) (get_or ys i 0)
-    unfolding groupWords
-    words-at short idle = go (bit (chosen xs ys m) i) refl
+    pub words_at : length ys ≤ length xs → (bit m i ≡ 0 → decider op (get_or xs i 0) (get_or ys i 0) ≡ 0)
+        → get_or (group_words op xs ys m) i 0 ≡ op_word op (get_or xs i 0) (get_or ys i 0)
+    unfolding group_words
+    words_at short idle = go (bit (chosen xs ys m) i) refl
       where
-        go : (b : ℕ) → bit (chosen xs ys m) i ≡ b → get_or (mergeNamed op (chosen xs ys m) 0 xs ys) i 0 ≡ opWord op (get_or xs i 0) (get_or ys i 0)
+        go : (b : ℕ) → bit (chosen xs ys m) i ≡ b → get_or (merge_named op (chosen xs ys m) 0 xs ys) i 0 ≡ op_word op (get_or xs i 0) (get_or ys i 0)
         go zero e =
-            named-off op (chosen xs ys m) xs ys i e
-            ∙ sym (op-still op (get_or xs i 0) (get_or ys i 0) (idle (chosen-off i h e)))
-        go (suc b) e = named-on op (chosen xs ys m) xs ys i short (omega (arith, bit-lt (chosen xs ys m) i))
+            named_off op (chosen xs ys m) xs ys i e
+            ∙ sym (op_still op (get_or xs i 0) (get_or ys i 0) (idle (chosen_off i h e)))
+        go (suc b) e = named_on op (chosen xs ys m) xs ys i short (omega (arith, bit_lt (chosen xs ys m) i))
 
-    pub over-at : (bit m i ≡ 0 → (bit w i ≡ 1) ↔ (get_or xs i 0 ≢ 0)) → (bit (groupOver op xs ys w m) i ≡ 1) ↔ (get_or (groupWords op xs ys m) i 0 ≢ 0)
-    unfolding groupWords groupOver
-    over-at right = go (bit (chosen xs ys m) i) refl
+    pub over_at : (bit m i ≡ 0 → (bit w i ≡ 1) ↔ (get_or xs i 0 ≢ 0)) → (bit (group_over op xs ys w m) i ≡ 1) ↔ (get_or (group_words op xs ys m) i 0 ≢ 0)
+    unfolding group_words group_over
+    over_at right = go (bit (chosen xs ys m) i) refl
       where
-        go : (b : ℕ) → bit (chosen xs ys m) i ≡ b → (bit (markNamed (chosen xs ys m) (mergeNamed op (chosen xs ys m) 0 xs ys) w) i ≡ 1) ↔ (get_or (mergeNamed op (chosen xs ys m) 0 xs ys) i 0 ≢ 0)
+        go : (b : ℕ) → bit (chosen xs ys m) i ≡ b → (bit (mark_named (chosen xs ys m) (merge_named op (chosen xs ys m) 0 xs ys) w) i ≡ 1) ↔ (get_or (merge_named op (chosen xs ys m) 0 xs ys) i 0 ≢ 0)
         go zero e =
-            rw (marked-off (chosen xs ys m) (mergeNamed op (chosen xs ys m) 0 xs ys) w i chosen-lt h e, named-off op (chosen xs ys m) xs ys i e)
-            (right (chosen-off i h e))
+            rw (marked_off (chosen xs ys m) (merge_named op (chosen xs ys m) 0 xs ys) w i chosen_lt h e, named_off op (chosen xs ys m) xs ys i e)
+            (right (chosen_off i h e))
         go (suc b) e =
-            rw (marked-on (chosen xs ys m) (mergeNamed op (chosen xs ys m) 0 xs ys) w i chosen-lt h (omega (arith, bit-lt (chosen xs ys m) i)))
-            (flag-on (get_or (mergeNamed op (chosen xs ys m) 0 xs ys) i 0))
+            rw (marked_on (chosen xs ys m) (merge_named op (chosen xs ys m) 0 xs ys) w i chosen_lt h (omega (arith, bit_lt (chosen xs ys m) i)))
+            (flag-on (get_or (merge_named op (chosen xs ys m) 0 xs ys) i 0))

@@ -3,34 +3,34 @@ use Rattle.std.specs.Prelude.{Bool, cond, ◌&&◌, List, [], ◌∷◌, ◌≡�
 use Rattle.std.specs.Int.Bits.{bit_and, bit_or}
 use Rattle.util.specs.Word.{bit, flip, count}
 use Rattle.store.specs.Build.{flags}
-use Rattle.ops_word.specs.Op.{opWord}
+use Rattle.ops_word.specs.Op.{op_word}
 
 -- of the words from place i on, those that m names become the operation's, each with the other word at its place; the rest stay
-unfoldable pub mergeNamed : ℕ → ℕ → ℕ → List ℕ → List ℕ → List ℕ
-mergeNamed op m i [] ys = []
-mergeNamed op m i (x ∷ xs) ys = cond (eqb (bit m i) 1) (opWord op x (get_or ys i 0)) x ∷ mergeNamed op m (suc i) xs ys
+unfoldable pub merge_named : ℕ → ℕ → ℕ → List ℕ → List ℕ → List ℕ
+merge_named op m i [] ys = []
+merge_named op m i (x ∷ xs) ys = cond (eqb (bit m i) 1) (op_word op x (get_or ys i 0)) x ∷ merge_named op m (suc i) xs ys
 
 -- the word above: the bits that m names tell of the words zs, the rest stay
-unfoldable pub markNamed : ℕ → List ℕ → ℕ → ℕ
-markNamed m zs w = bit_or (bit_and w (flip m)) (bit_and m (flags zs))
+unfoldable pub mark_named : ℕ → List ℕ → ℕ → ℕ
+mark_named m zs w = bit_or (bit_and w (flip m)) (bit_and m (flags zs))
 
 -- all places
 abbrev pub all : ℕ
 all = 2 ^ 64 - 1
 
 -- two full groups of which 12 words or more are named go as a whole
-unfoldable pub isDense : ℕ → ℕ → ℕ → Bool
-isDense n l m = eqb n 64 && (eqb l 64 && leb 12 (count m))
+unfoldable pub is_dense : ℕ → ℕ → ℕ → Bool
+is_dense n l m = eqb n 64 && (eqb l 64 && leb 12 (count m))
 
 abbrev pub chosen : List ℕ → List ℕ → ℕ → ℕ
-chosen xs ys m = cond (isDense (length xs) (length ys) m) all m
+chosen xs ys m = cond (is_dense (length xs) (length ys) m) all m
 
 -- the group after, and the word above it
-unfoldable pub groupWords : ℕ → List ℕ → List ℕ → ℕ → List ℕ
-groupWords op xs ys m = mergeNamed op (chosen xs ys m) 0 xs ys
+unfoldable pub group_words : ℕ → List ℕ → List ℕ → ℕ → List ℕ
+group_words op xs ys m = merge_named op (chosen xs ys m) 0 xs ys
 
-unfoldable pub groupOver : ℕ → List ℕ → List ℕ → ℕ → ℕ → ℕ
-groupOver op xs ys w m = markNamed (chosen xs ys m) (groupWords op xs ys m) w
+unfoldable pub group_over : ℕ → List ℕ → List ℕ → ℕ → ℕ → ℕ
+group_over op xs ys w m = mark_named (chosen xs ys m) (group_words op xs ys m) w
 
 -- ---- the loops
 
@@ -38,7 +38,7 @@ groupOver op xs ys w m = markNamed (chosen xs ys m) (groupWords op xs ys m) w
 pub record Merging (op : ℕ) (xs ys zs : List ℕ) (t : ℕ) : Type 0 where
   pub upto : t ≤ 64
   pub long : length zs ≡ length xs
-  pub new : (i : ℕ) → i < t → get_or zs i 0 ≡ opWord op (get_or xs i 0) (get_or ys i 0)
+  pub new : (i : ℕ) → i < t → get_or zs i 0 ≡ op_word op (get_or xs i 0) (get_or ys i 0)
   pub old : (i : ℕ) → t ≤ i → get_or zs i 0 ≡ get_or xs i 0
 
 -- what m still names gives what must come out
@@ -46,5 +46,5 @@ pub record Naming (op : ℕ) (xs ys : List ℕ) (w m : ℕ) (zs : List ℕ) (v n
   pub few : n < 2 ^ 64
   pub small : v < 2 ^ 64
   pub long : length zs ≡ length xs
-  pub words : mergeNamed op n 0 zs ys ≡ mergeNamed op m 0 xs ys
-  pub over : markNamed n (mergeNamed op m 0 xs ys) v ≡ markNamed m (mergeNamed op m 0 xs ys) w
+  pub words : merge_named op n 0 zs ys ≡ merge_named op m 0 xs ys
+  pub over : mark_named n (merge_named op m 0 xs ys) v ≡ mark_named m (merge_named op m 0 xs ys) w

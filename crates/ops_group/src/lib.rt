@@ -2,8 +2,8 @@
 ghost use Rattle.std.specs.Prelude.{◌≡◌, ◌<◌, leb, length, get_or, set};
 ghost use Rattle.util.specs.Word.{count};
 ghost use Rattle.store.specs.Build.{flags};
-ghost use Rattle.ops_word.specs.Op.{opWord};
-ghost use Rattle.ops_group.specs.Group.{mergeNamed, markNamed, all, isDense, groupWords, groupOver};
+ghost use Rattle.ops_word.specs.Op.{op_word};
+ghost use Rattle.ops_group.specs.Group.{merge_named, mark_named, all, is_dense, group_words, group_over};
 
 // Whether three words or fewer are named: a quick look, since to count the bits of a word takes some twenty instructions.
 fn is_few(m: u64) -> bool
@@ -14,7 +14,7 @@ fn is_few(m: u64) -> bool
 
 // Whether two groups go as a whole: both are full, and 12 words or more are named.
 fn is_dense(n: usize, l: usize, m: u64) -> bool
-    ensures { result ≡ isDense n l m }
+    ensures { result ≡ is_dense n l m }
 {
     if n != 64 {
         return false;
@@ -31,7 +31,7 @@ fn is_dense(n: usize, l: usize, m: u64) -> bool
 // A full group, each word with the other's at its place.
 fn merge_64(part: &mut [u64], other: &[u64], op: u64)
     requires { (length part.old ≡ 64) × (length other.now ≡ 64) }
-    ensures { part.new ≡ mergeNamed op all 0 part.old other.now }
+    ensures { part.new ≡ merge_named op all 0 part.old other.now }
 {
     for t in 0..64 {
         part[t] = ops_word::combine(op, part[t], other[t]);
@@ -41,7 +41,7 @@ fn merge_64(part: &mut [u64], other: &[u64], op: u64)
 // The same, and its summary.
 fn dense_64(part: &mut [u64], other: &[u64], op: u64) -> u64
     requires { (length part.old ≡ 64) × (length other.now ≡ 64) }
-    ensures part_after { part.new ≡ mergeNamed op all 0 part.old other.now }
+    ensures part_after { part.new ≡ merge_named op all 0 part.old other.now }
     ensures value { result ≡ flags part.new }
 {
     merge_64(part, other, op);
@@ -50,7 +50,7 @@ fn dense_64(part: &mut [u64], other: &[u64], op: u64) -> u64
 
 // One word of a group; answers what stands there after, 0 past the group's end.
 fn leaf(part: &mut [u64], other: &[u64], t: usize, op: u64) -> u64
-    ensures part_after { let x = part.old in part.new ≡ set x t (opWord op (get_or x t 0) (get_or other.now t 0)) }
+    ensures part_after { let x = part.old in part.new ≡ set x t (op_word op (get_or x t 0) (get_or other.now t 0)) }
     ensures value { result ≡ get_or part.new t 0 }
 {
     if t < part.len() {
@@ -64,8 +64,8 @@ fn leaf(part: &mut [u64], other: &[u64], t: usize, op: u64) -> u64
 // The words of a group that m names, one by one, each with the other's at its place; w is the word above the group. Answers the word above
 // after.
 pub fn one_by_one(part: &mut [u64], other: &[u64], w: u64, m: u64, op: u64) -> u64
-    ensures part_after { part.new ≡ mergeNamed op m 0 part.old other.now }
-    ensures value { result ≡ markNamed m (mergeNamed op m 0 part.old other.now) w }
+    ensures part_after { part.new ≡ merge_named op m 0 part.old other.now }
+    ensures value { result ≡ mark_named m (merge_named op m 0 part.old other.now) w }
 {
     let mut over = w;
     let mut left = m;
@@ -80,8 +80,8 @@ pub fn one_by_one(part: &mut [u64], other: &[u64], w: u64, m: u64, op: u64) -> u
 
 // The same, with a loop of its own for each operation.
 fn sparse(part: &mut [u64], other: &[u64], w: u64, m: u64, op: u64) -> u64
-    ensures part_after { part.new ≡ mergeNamed op m 0 part.old other.now }
-    ensures value { result ≡ markNamed m (mergeNamed op m 0 part.old other.now) w }
+    ensures part_after { part.new ≡ merge_named op m 0 part.old other.now }
+    ensures value { result ≡ mark_named m (merge_named op m 0 part.old other.now) w }
 {
     if op == ops_word::AND {
         return one_by_one(part, other, w, m, ops_word::AND);
@@ -95,8 +95,8 @@ fn sparse(part: &mut [u64], other: &[u64], w: u64, m: u64, op: u64) -> u64
 // The words of a group that m names, each with the other's at its place; w is the word above the group. Answers the word above after.
 // Words that m does not name are merged too where the group goes as a whole.
 pub fn group(part: &mut [u64], other: &[u64], w: u64, m: u64, op: u64) -> u64
-    ensures part_after { part.new ≡ groupWords op part.old other.now m }
-    ensures value { result ≡ groupOver op part.old other.now w m }
+    ensures part_after { part.new ≡ group_words op part.old other.now m }
+    ensures value { result ≡ group_over op part.old other.now w m }
 {
     if is_dense(part.len(), other.len(), m) {
         return dense_64(part, other, op);

@@ -8,39 +8,39 @@ use native.Mathlib.Omega.{arith}
 use borrow.Author.Tests.{eq-eqb, ne_eqb}
 use lib.Pow.{pow_pos}
 use Rattle.util.specs.Outcome.{Settled, settled}
-use Rattle.util.proofs.Bits.{bit-of-zero}
-use Rattle.store.specs.Answer.{didPaper, does}
+use Rattle.util.proofs.Bits.{bit_of_zero}
+use Rattle.store.specs.Answer.{did_paper, does}
 use Rattle.store.specs.Build.{build, layer0}
 use Rattle.store.specs.Layout.{top, cap, is_store, StoreOf}
 use Rattle.store.specs.Word.{Sound, Words64}
 use Rattle.store.specs.declared.Did.TheVariants.{Done, Refused}
-use Rattle.store.proofs.Geometry.{is-store, store_kept}
-use Rattle.ops_word.specs.Op.{opWord}
-use Rattle.ops_merge.specs.Calls.{mergedOf, mergeable, assignOf, Assigned}
+use Rattle.store.proofs.Geometry.{is_store_lem, store_kept}
+use Rattle.ops_word.specs.Op.{op_word}
+use Rattle.ops_merge.specs.Calls.{merged_of, mergeable, assign_of, Assigned}
 use Rattle.ops_merge.specs.Tree.{MergeAt, Level}
-use Rattle.ops_merge.proofs.Whole.{top-told, done-merged}
+use Rattle.ops_merge.proofs.Whole.{top-told, done_merged}
 
 -- a refusal changes nothing
 module _ {op : ℕ} (s t : List ℕ) where
-  refused : {n : ℕ} → Settled didPaper (assignOf op s t) (Refused n) s → Assigned op s t (Refused n) s
+  refused : {n : ℕ} → Settled did_paper (assign_of op s t) (Refused n) s → Assigned op s t (Refused n) s
   refused v = record { answer = v.answer; long = refl; names = refl; whole = λ z. v }
 
-  pub first-refused : is_store s ≡ false → Assigned op s t (Refused 2) s
-  unfolding assignOf
-  first-refused h = refused (settled (rw h))
+  pub first_refused : is_store s ≡ false → Assigned op s t (Refused 2) s
+  unfolding assign_of
+  first_refused h = refused (settled (rw h))
 
-  pub second-refused : {N : ℕ} → StoreOf N s → is_store t ≡ false → Assigned op s t (Refused 2) s
-  unfolding assignOf
-  second-refused z h = refused (settled (rw (is-store z, h)))
+  pub second_refused : {N : ℕ} → StoreOf N s → is_store t ≡ false → Assigned op s t (Refused 2) s
+  unfolding assign_of
+  second_refused z h = refused (settled (rw (is_store_lem z, h)))
 
-  pub caps-refused : {N M : ℕ} → StoreOf N s → StoreOf M t → N ≢ M → Assigned op s t (Refused 5) s
-  unfolding assignOf
-  caps-refused z y n =
-      refused (settled (rw (is-store z, is-store y, ne_eqb (cap s) (cap t) (λ e. n (sym z.names ∙ e ∙ y.names)))))
+  pub caps_refused : {N M : ℕ} → StoreOf N s → StoreOf M t → N ≢ M → Assigned op s t (Refused 5) s
+  unfolding assign_of
+  caps_refused z y n =
+      refused (settled (rw (is_store_lem z, is_store_lem y, ne_eqb (cap s) (cap t) (λ e. n (sym z.names ∙ e ∙ y.names)))))
 
 -- what the top word is asked of
-pub ask-top : {N M k : ℕ} {s t : List ℕ} → StoreOf N s → StoreOf M t → N ≡ M → k ≡ top N → MergeAt s t N k 0
-ask-top {N} {M} {k} {s} {t} z y e h =
+pub ask_top : {N M k : ℕ} {s t : List ℕ} → StoreOf N s → StoreOf M t → N ≡ M → k ≡ top N → MergeAt s t N k 0
+ask_top {N} {M} {k} {s} {t} z y e h =
     record { first = z; second = subst (λ (n : ℕ). StoreOf n t) (sym e) y; known = omega arith; small = pow_pos (6 * (top N - k)) }
 
 -- and what it gives
@@ -57,27 +57,27 @@ module _ {op N M k : ℕ} {s t : List ℕ} {u : List ℕ} {r : ℕ} (z : StoreOf
 
   pair : mergeable s t ≡ true
   unfolding mergeable
-  pair = rw (is-store z, is-store y) (eq-eqb (cap s) (cap t) caps)
+  pair = rw (is_store_lem z, is_store_lem y) (eq-eqb (cap s) (cap t) caps)
 
-  merged : Sound N s → Sound N t → u ≡ mergedOf op s t
-  unfolding mergedOf
+  merged : Sound N s → Sound N t → u ≡ merged_of op s t
+  unfolding merged_of
   merged zs zt =
       let x = subst (λ (i : ℕ). Level N op s t i 0 0 1 u r 0) h v in
-      let d = ((x.along (top-told N op s t z.some z.most zs.layers zt.layers)).done 0 refl (bit-of-zero 0)).is in
-      subst (λ (n : ℕ). u ≡ build n (zip_with (opWord op) (layer0 n s) (layer0 n t))) (sym z.names)
-      (done-merged op z second ws wt zs zt u there wu d)
+      let d = ((x.along (top-told N op s t z.some z.most zs.layers zt.layers)).done 0 refl (bit_of_zero 0)).is in
+      subst (λ (n : ℕ). u ≡ build n (zip_with (op_word op) (layer0 n s) (layer0 n t))) (sym z.names)
+      (done_merged op z second ws wt zs zt u there wu d)
 
-  pub merge-done : Assigned op s t Done u
-  unfolding assignOf
-  merge-done =
+  pub merge_done : Assigned op s t Done u
+  unfolding assign_of
+  merge_done =
       let f = eq-eqb (cap s) (cap t) caps in
       record {
-        answer = rw (is-store z, is-store y, f);
+        answer = rw (is_store_lem z, is_store_lem y, f);
         long = v.long;
         names = v.head 0 (omega arith);
         whole = λ h.
             let b = h pair in
-            settled (rw (is-store z, is-store y, f)
+            settled (rw (is_store_lem z, is_store_lem y, f)
             (ap (λ (l : List ℕ). does l)
             (sym (merged (subst (λ (n : ℕ). Sound n s) z.names b.0) (subst (λ (n : ℕ). Sound n t) (y.names ∙ sym e) b.1)))));
       }

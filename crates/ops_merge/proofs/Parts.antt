@@ -16,8 +16,8 @@ module _ (a e : ℕ) (xs ys : List ℕ) (h : a ≤ e) (g : e ≤ length xs) (l :
       ∙ get_or-append-add (take a xs) (ys ++ post_of a (e - a) xs) i 0
       ∙ get_or-append ys (post_of a (e - a) xs) 0 i (omega arith)
 
-  pub put-out : (x : ℕ) → (a ≤ x → x < e → ⊥) → get_or (put_mid a (e - a) xs ys) x 0 ≡ get_or xs x 0
-  put-out x n = go (dec_lt x a)
+  pub put_out : (x : ℕ) → (a ≤ x → x < e → ⊥) → get_or (put_mid a (e - a) xs ys) x 0 ≡ get_or xs x 0
+  put_out x n = go (dec_lt x a)
     where
       go : Dec (x < a) → get_or (put_mid a (e - a) xs ys) x 0 ≡ get_or xs x 0
       go (yes f) =

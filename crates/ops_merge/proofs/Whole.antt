@@ -8,29 +8,29 @@ use native.Mathlib.Omega.{arith}
 use lib.ListN.{length, get_or}
 use lib.Seq.{ext_get_or}
 use Rattle.util.specs.Word.{bit}
-use Rattle.util.proofs.Bits.{bit-of-zero, bit_high, bit-pow-same, bit-pow-other}
+use Rattle.util.proofs.Bits.{bit_of_zero, bit_high, bit_pow_same, bit_pow_other}
 use Rattle.store.specs.Build.{build, layer0, room0, Kept}
-use Rattle.store.specs.Layout.{top, maxCap, room, layerLen, cap, StoreOf}
+use Rattle.store.specs.Layout.{top, max_cap, room, layer_len, cap, StoreOf}
 use Rattle.store.specs.Word.{word, on, anc, SoundLayers, Sound, Words64, SoundStore}
-use Rattle.store.proofs.Build.{length-layer0, word-layer0, sound-built}
+use Rattle.store.proofs.Build.{length-layer0, word-layer0, sound_built}
 use Rattle.store.proofs.TopLayer.{top_one}
 use Rattle.store.proofs.Words.{word_out, place_in}
-use Rattle.ops_word.specs.Op.{opWord, decider}
-use Rattle.ops_word.proofs.Op.{op-none, op-lt, moved_none}
+use Rattle.ops_word.specs.Op.{op_word, decider}
+use Rattle.ops_word.proofs.Op.{op_none, op_lt, moved_none}
 use Rattle.ops_merge.specs.Tree.{ToldMerge, Done}
-use Rattle.ops_merge.proofs.Tree.{anc-half, on-is, some_in}
+use Rattle.ops_merge.proofs.Tree.{anc_half, on_is, some_in}
 
 -- ---- two lists word by word
 
-pub length-zip : (op : ℕ) (xs ys : List ℕ) → length ys ≡ length xs → length (zip_with (opWord op) xs ys) ≡ length xs
+pub length-zip : (op : ℕ) (xs ys : List ℕ) → length ys ≡ length xs → length (zip_with (op_word op) xs ys) ≡ length xs
 unfolding zip_with
 length-zip op [] ys e = refl
 length-zip op (x ∷ xs) [] e = absurd (omega arith)
 length-zip op (x ∷ xs) (y ∷ ys) e = ap suc (length-zip op xs ys (omega arith))
 
-pub get_d_zip : (op : ℕ) (xs ys : List ℕ) (i : ℕ) → length ys ≡ length xs → get_or (zip_with (opWord op) xs ys) i 0 ≡ opWord op (get_or xs i 0) (get_or ys i 0)
+pub get_d_zip : (op : ℕ) (xs ys : List ℕ) (i : ℕ) → length ys ≡ length xs → get_or (zip_with (op_word op) xs ys) i 0 ≡ op_word op (get_or xs i 0) (get_or ys i 0)
 unfolding zip_with
-get_d_zip op [] [] i e = sym (op-none op)
+get_d_zip op [] [] i e = sym (op_none op)
 get_d_zip op [] (y ∷ ys) i e = absurd (omega arith)
 get_d_zip op (x ∷ xs) [] i e = absurd (omega arith)
 get_d_zip op (x ∷ xs) (y ∷ ys) zero e = refl
@@ -44,8 +44,8 @@ anc-room N p zero l k e h = let q : l ≡ k = omega arith in subst (λ (x : ℕ)
 anc-room N p (suc d) l zero e h = absurd (omega arith)
 anc-room N p (suc d) l (suc k) e h = place_in N k (anc p d) (anc-room N p d l k (omega arith) h)
 
-module _ (N op : ℕ) (s b : List ℕ) (some : 1 ≤ N) (most : N ≤ maxCap) where
-  under_top : (l d q : ℕ) → l + d ≡ top N → q < layerLen N l → anc q d ≡ 0
+module _ (N op : ℕ) (s b : List ℕ) (some : 1 ≤ N) (most : N ≤ max_cap) where
+  under_top : (l d q : ℕ) → l + d ≡ top N → q < layer_len N l → anc q d ≡ 0
   under_top l d q e h = omega (arith, anc-room N q d (suc l) (suc (top N)) (omega arith) h, top_one N some most)
 
   -- WHAT IS TOLD at the top
@@ -55,42 +55,42 @@ module _ (N op : ℕ) (s b : List ℕ) (some : 1 ≤ N) (most : N ≤ maxCap) wh
         first = λ c h. record { is = λ l d p e a. zs.exact l p (omega arith) };
         second = λ c h. record { is = λ l d p e a. zb.exact l p (omega arith) };
         inside = λ c h o. omega (arith, top_one N some most, first c h o (ℕ_discrete (c % 64) 0));
-        flagged = λ c h z. ((λ o. absurd (omega (arith, o, bit-of-zero (c % 64)))), λ n. absurd (n (none s c h z)));
+        flagged = λ c h z. ((λ o. absurd (omega (arith, o, bit_of_zero (c % 64)))), λ n. absurd (n (none s c h z)));
         idle = λ c h z. ap₂ (decider op) (none s c h z) (none b c h z) ∙ moved_none op;
       }
     where
       first : (c : ℕ) → c / 64 ≡ 0 → bit 1 (c % 64) ≡ 1 → Dec (c % 64 ≡ 0) → c ≡ 0
       first c h o (yes p) = omega arith
-      first c h o (no n) = absurd (omega (arith, o, bit-pow-other 0 (c % 64) n))
+      first c h o (no n) = absurd (omega (arith, o, bit_pow_other 0 (c % 64) n))
 
       none : (u : List ℕ) (c : ℕ) → c / 64 ≡ 0 → bit 1 (c % 64) ≡ 0 → word N u (top N) c ≡ 0
       none u c h z = go (ℕ_discrete (c % 64) 0)
         where
           go : Dec (c % 64 ≡ 0) → word N u (top N) c ≡ 0
-          go (yes p) = absurd (omega (arith, sym z ∙ ap (bit 1) p ∙ bit-pow-same 0))
+          go (yes p) = absurd (omega (arith, sym z ∙ ap (bit 1) p ∙ bit_pow_same 0))
           go (no n) = word_out N u (top N) c (omega (arith, top_one N some most))
 
   -- WHAT IS DONE
   module _ (t : List ℕ) (d : Done N op s b (top N) 0 t) where
-    low-all : (q : ℕ) → word N t 0 q ≡ opWord op (word N s 0 q) (word N b 0 q)
-    low-all q = go (dec_lt q (layerLen N 0))
+    low_all : (q : ℕ) → word N t 0 q ≡ op_word op (word N s 0 q) (word N b 0 q)
+    low_all q = go (dec_lt q (layer_len N 0))
       where
-        go : Dec (q < layerLen N 0) → word N t 0 q ≡ opWord op (word N s 0 q) (word N b 0 q)
+        go : Dec (q < layer_len N 0) → word N t 0 q ≡ op_word op (word N s 0 q) (word N b 0 q)
         go (yes l) = d.low q (under_top 0 (top N) q (omega arith) l)
         go (no l) =
-            let o : layerLen N 0 ≤ q = omega arith in
-            word_out N t 0 q o ∙ sym (op-none op) ∙ sym (ap₂ (opWord op) (word_out N s 0 q o) (word_out N b 0 q o))
+            let o : layer_len N 0 ≤ q = omega arith in
+            word_out N t 0 q o ∙ sym (op_none op) ∙ sym (ap₂ (op_word op) (word_out N s 0 q o) (word_out N b 0 q o))
 
-    exact-all : (k q : ℕ) → k < top N → (on N t (suc k) q ≡ 1) ↔ (word N t k q ≢ 0)
+    exact_all : (k q : ℕ) → k < top N → (on N t (suc k) q ≡ 1) ↔ (word N t k q ≢ 0)
     unfolding room
-    exact-all k q h = go (dec_lt (q / 64) (layerLen N (suc k)))
+    exact_all k q h = go (dec_lt (q / 64) (layer_len N (suc k)))
       where
-        go : Dec (q / 64 < layerLen N (suc k)) → (on N t (suc k) q ≡ 1) ↔ (word N t k q ≢ 0)
+        go : Dec (q / 64 < layer_len N (suc k)) → (on N t (suc k) q ≡ 1) ↔ (word N t k q ≢ 0)
         go (yes l) =
             let n = top N - suc k in
-            d.exact.is k n q (omega arith) (sym (anc-half q n) ∙ under_top (suc k) n (q / 64) (omega arith) l)
+            d.exact.is k n q (omega arith) (sym (anc_half q n) ∙ under_top (suc k) n (q / 64) (omega arith) l)
         go (no l) =
-            let z = on-is N t (suc k) q ∙ ap (λ (x : ℕ). bit x (q % 64)) (word_out N t (suc k) (q / 64) (omega arith)) ∙ bit-of-zero (q % 64) in
+            let z = on_is N t (suc k) q ∙ ap (λ (x : ℕ). bit x (q % 64)) (word_out N t (suc k) (q / 64) (omega arith)) ∙ bit_of_zero (q % 64) in
             ((λ o. absurd (omega (arith, z))), λ n. absurd (n (word_out N t k q (omega arith))))
 
 -- ---- a store's layer 0, by its capacity
@@ -99,62 +99,62 @@ module _ {N : ℕ} {u : List ℕ} (z : StoreOf N u) (small : Words64 u) where
   named : StoreOf (cap u) u
   named = subst (λ (n : ℕ). StoreOf n u) (sym z.names) z
 
-  pub long-low : length (layer0 N u) ≡ layerLen N 0
-  long-low = subst (λ (n : ℕ). length (layer0 n u) ≡ layerLen n 0) z.names (length-layer0 u named small)
+  pub long_low : length (layer0 N u) ≡ layer_len N 0
+  long_low = subst (λ (n : ℕ). length (layer0 n u) ≡ layer_len n 0) z.names (length-layer0 u named small)
 
   pub word_low : (q : ℕ) → get_or (layer0 N u) q 0 ≡ word N u 0 q
   word_low q = subst (λ (n : ℕ). get_or (layer0 n u) q 0 ≡ word n u 0 q) z.names (word-layer0 u named small q)
 
   pub built : Sound N u ↔ ((u ≡ build N (layer0 N u)) × Kept N (layer0 N u))
-  built = subst (λ (n : ℕ). Sound n u ↔ ((u ≡ build n (layer0 n u)) × Kept n (layer0 n u))) z.names (sound-built u named small)
+  built = subst (λ (n : ℕ). Sound n u ↔ ((u ≡ build n (layer0 n u)) × Kept n (layer0 n u))) z.names (sound_built u named small)
 
 -- ---- THE MERGED STORE of two sound stores
 
 module _ {N : ℕ} (op : ℕ) {s b : List ℕ} (is : StoreOf N s) (ib : StoreOf N b) (ws : Words64 s) (wb : Words64 b) where
   abbrev low : List ℕ
-  low = zip_with (opWord op) (layer0 N s) (layer0 N b)
+  low = zip_with (op_word op) (layer0 N s) (layer0 N b)
 
-  same-long : length (layer0 N b) ≡ length (layer0 N s)
-  same-long = long-low ib wb ∙ sym (long-low is ws)
+  same_long : length (layer0 N b) ≡ length (layer0 N s)
+  same_long = long_low ib wb ∙ sym (long_low is ws)
 
-  pub long-merged : length (zip_with (opWord op) (layer0 N s) (layer0 N b)) ≡ layerLen N 0
-  long-merged = length-zip op (layer0 N s) (layer0 N b) same-long ∙ long-low is ws
+  pub long_merged : length (zip_with (op_word op) (layer0 N s) (layer0 N b)) ≡ layer_len N 0
+  long_merged = length-zip op (layer0 N s) (layer0 N b) same_long ∙ long_low is ws
 
-  pub word-merged : (q : ℕ) → get_or (zip_with (opWord op) (layer0 N s) (layer0 N b)) q 0 ≡ opWord op (word N s 0 q) (word N b 0 q)
-  word-merged q = get_d_zip op (layer0 N s) (layer0 N b) q same-long ∙ ap₂ (opWord op) (word_low is ws q) (word_low ib wb q)
+  pub word_merged : (q : ℕ) → get_or (zip_with (op_word op) (layer0 N s) (layer0 N b)) q 0 ≡ op_word op (word N s 0 q) (word N b 0 q)
+  word_merged q = get_d_zip op (layer0 N s) (layer0 N b) q same_long ∙ ap₂ (op_word op) (word_low is ws q) (word_low ib wb q)
 
   module _ (zs : Sound N s) (zb : Sound N b) where
-    pub kept-merged : Kept N (zip_with (opWord op) (layer0 N s) (layer0 N b))
-    kept-merged q =
-        subst (λ (x : ℕ). x < 2 ^ room0 N q) (sym (get_d_zip op (layer0 N s) (layer0 N b) q same-long))
-        (op-lt op (room0 N q) (get_or (layer0 N s) q 0) (get_or (layer0 N b) q 0) (((built is ws).0 zs).1 q) (((built ib wb).0 zb).1 q))
+    pub kept_merged : Kept N (zip_with (op_word op) (layer0 N s) (layer0 N b))
+    kept_merged q =
+        subst (λ (x : ℕ). x < 2 ^ room0 N q) (sym (get_d_zip op (layer0 N s) (layer0 N b) q same_long))
+        (op_lt op (room0 N q) (get_or (layer0 N s) q 0) (get_or (layer0 N b) q 0) (((built is ws).0 zs).1 q) (((built ib wb).0 zb).1 q))
 
     -- a store in which all is done under the top word is the merged one
     module _ (t : List ℕ) (it : StoreOf N t) (wt : Words64 t) (d : Done N op s b (top N) 0 t) where
-      done-low : (q : ℕ) → word N t 0 q ≡ get_or (zip_with (opWord op) (layer0 N s) (layer0 N b)) q 0
-      done-low q = low-all N op s b is.some is.most t d q ∙ sym (word-merged q)
+      done_low : (q : ℕ) → word N t 0 q ≡ get_or (zip_with (op_word op) (layer0 N s) (layer0 N b)) q 0
+      done_low q = low_all N op s b is.some is.most t d q ∙ sym (word_merged q)
 
-      done-inside : (k p : ℕ) → k ≤ top N → on N t k p ≡ 1 → p < room N k
+      done_inside : (k p : ℕ) → k ≤ top N → on N t k p ≡ 1 → p < room N k
       unfolding room
-      done-inside zero p h o = go (dec_lt p N)
+      done_inside zero p h o = go (dec_lt p N)
         where
           go : Dec (p < N) → p < N
           go (yes l) = l
           go (no l) =
               let z : bit (word N t 0 (p / 64)) (p % 64) ≡ 0 =
               bit_high (room0 N (p / 64)) (word N t 0 (p / 64)) (p % 64)
-              (subst (λ (x : ℕ). x < 2 ^ room0 N (p / 64)) (sym (done-low (p / 64))) (kept-merged (p / 64))) (omega arith) in
-              absurd (omega (arith, sym o ∙ on-is N t 0 p ∙ z))
-      done-inside (suc k) p h o = some_in N t k p ((exact-all N op s b is.some is.most t d k p h).0 o)
+              (subst (λ (x : ℕ). x < 2 ^ room0 N (p / 64)) (sym (done_low (p / 64))) (kept_merged (p / 64))) (omega arith) in
+              absurd (omega (arith, sym o ∙ on_is N t 0 p ∙ z))
+      done_inside (suc k) p h o = some_in N t k p ((exact_all N op s b is.some is.most t d k p h).0 o)
 
-      done-layers : SoundLayers N t
-      done-layers = record { inside = done-inside; exact = exact-all N op s b is.some is.most t d }
+      done_layers : SoundLayers N t
+      done_layers = record { inside = done_inside; exact = exact_all N op s b is.some is.most t d }
 
-      done-fine : SoundStore N t
-      done-fine = record { is = it; words = wt; sound = record { layers = done-layers } }
+      done_fine : SoundStore N t
+      done_fine = record { is = it; words = wt; sound = record { layers = done_layers } }
 
-      pub done-merged : t ≡ build N (zip_with (opWord op) (layer0 N s) (layer0 N b))
-      done-merged =
-          ((built it wt).0 done-fine.sound).0
+      pub done_merged : t ≡ build N (zip_with (op_word op) (layer0 N s) (layer0 N b))
+      done_merged =
+          ((built it wt).0 done_fine.sound).0
           ∙ ap (build N)
-          (ext_get_or 0 (layer0 N t) low (long-low it wt ∙ sym long-merged) (λ q l. word_low it wt q ∙ done-low q))
+          (ext_get_or 0 (layer0 N t) low (long_low it wt ∙ sym long_merged) (λ q l. word_low it wt q ∙ done_low q))

@@ -1,9 +1,9 @@
 -- The words under a word: word q of layer l stands d layers under word j of layer l + d where anc q d ≡ j.
 use Rattle.std.specs.Prelude.{List, ◌↔◌, ◌≢◌, ◌≡◌, ℕ, suc, ◌+◌, ◌-◌, ◌*◌, ◌/◌, ◌%◌, ◌^◌, ◌≤◌, ◌<◌, length, get_or}
 use Rattle.util.specs.Word.{bit}
-use Rattle.store.specs.Layout.{header, top, layerLen, StoreOf}
+use Rattle.store.specs.Layout.{header, top, layer_len, StoreOf}
 use Rattle.store.specs.Word.{word, on, anc}
-use Rattle.ops_word.specs.Op.{opWord, decider}
+use Rattle.ops_word.specs.Op.{op_word, decider}
 
 -- the summary bits over the words under word j of layer k are exact
 pub record Exact (N : ℕ) (s : List ℕ) (k j : ℕ) : Type 0 where
@@ -13,13 +13,13 @@ pub record Exact (N : ℕ) (s : List ℕ) (k j : ℕ) : Type 0 where
 pub record ToldMerge (N op : ℕ) (s b : List ℕ) (k j w m : ℕ) : Type 0 where
   pub first : (c : ℕ) → c / 64 ≡ j → Exact N s k c
   pub second : (c : ℕ) → c / 64 ≡ j → Exact N b k c
-  pub inside : (c : ℕ) → c / 64 ≡ j → bit m (c % 64) ≡ 1 → c < layerLen N k
+  pub inside : (c : ℕ) → c / 64 ≡ j → bit m (c % 64) ≡ 1 → c < layer_len N k
   pub flagged : (c : ℕ) → c / 64 ≡ j → bit m (c % 64) ≡ 0 → (bit w (c % 64) ≡ 1) ↔ (word N s k c ≢ 0)
   pub idle : (c : ℕ) → c / 64 ≡ j → bit m (c % 64) ≡ 0 → decider op (word N s k c) (word N b k c) ≡ 0
 
 -- what was to be done under word c of layer k of s is done in t
 pub record Done (N op : ℕ) (s b : List ℕ) (k c : ℕ) (t : List ℕ) : Type 0 where
-  pub low : (q : ℕ) → anc q k ≡ c → word N t 0 q ≡ opWord op (word N s 0 q) (word N b 0 q)
+  pub low : (q : ℕ) → anc q k ≡ c → word N t 0 q ≡ op_word op (word N s 0 q) (word N b 0 q)
   pub exact : Exact N t k c
 
 -- and w tells of that word
@@ -31,7 +31,7 @@ pub record Child (N op : ℕ) (s b : List ℕ) (k c : ℕ) (t : List ℕ) (w : �
 pub record Along (N op : ℕ) (s b : List ℕ) (k j : ℕ) (t : List ℕ) (w m : ℕ) : Type 0 where
   pub kept : (l q : ℕ) → l ≤ top N → ((d : ℕ) → l + d ≡ k → anc q (suc d) ≡ j → bit m (anc q d % 64) ≡ 0 → ⊥)
       → word N t l q ≡ word N s l q
-  pub inside : (c : ℕ) → c / 64 ≡ j → bit m (c % 64) ≡ 1 → c < layerLen N k
+  pub inside : (c : ℕ) → c / 64 ≡ j → bit m (c % 64) ≡ 1 → c < layer_len N k
   pub done : (c : ℕ) → c / 64 ≡ j → bit m (c % 64) ≡ 0 → Child N op s b k c t w
 
 -- length and header stay; what was told gives the rest

@@ -5,27 +5,27 @@ use Prim.Native.Nat.{ℕ, ◌^◌, ◌<◌, min, max}
 use lib.Bits.{bit_and, bit_or, bit_xor, differ, and_zero_l, or_zero_r, xor_zero_r, and_lt, or_lt, xor_lt}
 use lib.Dec.{eqb}
 use Rattle.util.specs.Word.{bit}
-use Rattle.util.proofs.Bits.{bit-and, bit-or, bit-xor}
-use Rattle.ops_word.specs.Op.{opWord, opBit, decider}
+use Rattle.util.proofs.Bits.{bit-bit_and, bit-bit_or, bit-bit_xor}
+use Rattle.ops_word.specs.Op.{op_word, op_bit, decider}
 
-pub op-still : (op x y : ℕ) → decider op x y ≡ 0 → opWord op x y ≡ x
-unfolding opWord decider
-op-still op x y = go (eqb op 16) (eqb op 17)
+pub op_still : (op x y : ℕ) → decider op x y ≡ 0 → op_word op x y ≡ x
+unfolding op_word decider
+op_still op x y = go (eqb op 16) (eqb op 17)
   where
     go : (p q : Bool) → cond p x y ≡ 0 → cond p (bit_and x y) (cond q (bit_or x y) (bit_xor x y)) ≡ x
     go true q h = rw h (and_zero_l y)
     go false true h = rw h (or_zero_r x)
     go false false h = rw h (xor_zero_r x)
 
-pub op-bit : (op x y b : ℕ) → bit (opWord op x y) b ≡ opBit op (bit x b) (bit y b)
-unfolding opWord opBit
-op-bit op x y b = go (eqb op 16) (eqb op 17)
+pub op_bit_lem : (op x y b : ℕ) → bit (op_word op x y) b ≡ op_bit op (bit x b) (bit y b)
+unfolding op_word op_bit
+op_bit_lem op x y b = go (eqb op 16) (eqb op 17)
   where
     go : (p q : Bool) → bit (cond p (bit_and x y) (cond q (bit_or x y) (bit_xor x y))) b
         ≡ cond p (min (bit x b) (bit y b)) (cond q (max (bit x b) (bit y b)) (differ (bit x b) (bit y b)))
-    go true q = bit-and x y b
-    go false true = bit-or x y b
-    go false false = bit-xor x y b
+    go true q = bit-bit_and x y b
+    go false true = bit-bit_or x y b
+    go false false = bit-bit_xor x y b
 
 pub moved_none : (op : ℕ) → decider op 0 0 ≡ 0
 unfolding decider
@@ -35,13 +35,13 @@ moved_none op = go (eqb op 16)
     go true = refl
     go false = refl
 
-pub op-none : (op : ℕ) → opWord op 0 0 ≡ 0
-op-none op = op-still op 0 0 (moved_none op)
+pub op_none : (op : ℕ) → op_word op 0 0 ≡ 0
+op_none op = op_still op 0 0 (moved_none op)
 
 -- no bit from none, at any width
-pub op-lt : (op n x y : ℕ) → x < 2 ^ n → y < 2 ^ n → opWord op x y < 2 ^ n
-unfolding opWord
-op-lt op n x y h g = go (eqb op 16) (eqb op 17)
+pub op_lt : (op n x y : ℕ) → x < 2 ^ n → y < 2 ^ n → op_word op x y < 2 ^ n
+unfolding op_word
+op_lt op n x y h g = go (eqb op 16) (eqb op 17)
   where
     go : (p q : Bool) → cond p (bit_and x y) (cond q (bit_or x y) (bit_xor x y)) < 2 ^ n
     go true q = and_lt n x y h g

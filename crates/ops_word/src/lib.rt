@@ -1,6 +1,6 @@
 // Or, and, xor of one word with another, told which.
 ghost use Rattle.std.specs.Prelude.{◌≡◌, get_or};
-ghost use Rattle.ops_word.specs.Op.{opWord, decider};
+ghost use Rattle.ops_word.specs.Op.{op_word, decider};
 
 // The operations, by a formula's codes.
 pub const AND: u64 = 16;
@@ -11,7 +11,7 @@ pub const XOR: u64 = 18;
 
 // One word with another; what is neither AND nor OR counts as XOR.
 pub fn combine(op: u64, x: u64, y: u64) -> u64
-    ensures { result ≡ opWord op x y }
+    ensures { result ≡ op_word op x y }
 {
     if op == AND {
         return x & y;

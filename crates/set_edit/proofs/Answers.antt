@@ -13,93 +13,93 @@ use lib.ListN.{length, get_or, drop, set as set_at}
 use lib.Seq.{drop-cons, drop-length}
 use Rattle.util.specs.Outcome.{Settled, settled}
 use Rattle.util.specs.Word.{bit, change}
-use Rattle.util.proofs.Bits.{change-kept, kept-change}
-use Rattle.store.specs.Answer.{askedPaper, didPaper}
+use Rattle.util.proofs.Bits.{change_kept, kept_change}
+use Rattle.store.specs.Answer.{asked_paper, did_paper}
 use Rattle.store.specs.Layout.{top, is_store, StoreOf}
 use Rattle.store.specs.Word.{word, on, anc}
 use Rattle.store.specs.declared.Asked.{Asked}
 use Rattle.store.specs.declared.Asked.TheVariants.{Is, Refused as AskedRefused}
 use Rattle.store.specs.declared.Did.TheVariants.{Done, Refused as DidRefused}
 use Rattle.store.proofs.Ends.{id-word}
-use Rattle.store.proofs.Geometry.{is-store}
-use Rattle.store.proofs.Words.{on-lt}
+use Rattle.store.proofs.Geometry.{is_store_lem}
+use Rattle.store.proofs.Words.{on_lt}
 use Rattle.set_member.specs.Calls.{holds}
 use Rattle.set_member.specs.Place.{Placed, Inside, Outside}
-use Rattle.set_edit.specs.Calls.{stays, move_of, all_below, addAll, addListOf}
-use Rattle.set_edit.specs.Edit.{edits, climb, layersOf, movedBy}
+use Rattle.set_edit.specs.Calls.{stays, move_of, all_below, add_all, add_list_of}
+use Rattle.set_edit.specs.Edit.{edits, climb, layers_of, moved_by}
 use Rattle.set_edit.specs.Steps.{Edited, Begun, Ended, Moved}
-use Rattle.set_edit.proofs.Moves.{add_none, add-all, add-one-layer, remove-none, remove-some, climb-some}
+use Rattle.set_edit.proofs.Moves.{add_none, add_all_lem, add_one_layer, remove_none, remove_some, climb_some}
 use Rattle.set_edit.proofs.Steps.{edited, first}
 
 -- ---- the private steps: by the layer-0 word as it was, w, and with the bit set or cleared, v
 
 -- the answer that is read off the number of layers
-abbrev pub saysHeld : Bool → ℕ → Bool
-saysHeld true m = eqb m 0
-saysHeld false m = not (eqb m 0)
+abbrev pub says_held : Bool → ℕ → Bool
+says_held true m = eqb m 0
+says_held false m = not (eqb m 0)
 
 module _ (N : ℕ) (s : List ℕ) (i : ℕ) where
   abbrev old : ℕ
   old = word N s 0 (i / 64)
 
-  pub none-added : on N s 0 i ≡ 1 → Moved true s N i s 0
-  unfolding movedBy edits
-  none-added h = record { memory = ap (edits true N s i) (sym (add_none N s i h)); layers = sym (add_none N s i h) }
+  pub none_added : on N s 0 i ≡ 1 → Moved true s N i s 0
+  unfolding moved_by edits
+  none_added h = record { memory = ap (edits true N s i) (sym (add_none N s i h)); layers = sym (add_none N s i h) }
 
-  pub none-removed : on N s 0 i ≡ 0 → Moved false s N i s 0
-  unfolding movedBy edits
-  none-removed h =
-      let e = remove-none N s i (λ q. omega (arith, h, q)) in
+  pub none_removed : on N s 0 i ≡ 0 → Moved false s N i s 0
+  unfolding moved_by edits
+  none_removed h =
+      let e = remove_none N s i (λ q. omega (arith, h, q)) in
       record { memory = ap (edits false N s i) (sym e); layers = sym e }
 
   pub one-added : {t : List ℕ} → on N s 0 i ≢ 1 → old ≢ 0 → Begun true s N i 1 t → Moved true s N i t 1
-  unfolding movedBy
-  one-added h w g = let e = add-one-layer N s i h w in record { memory = g.memory ∙ ap (edits true N s i) (sym e); layers = sym e }
+  unfolding moved_by
+  one-added h w g = let e = add_one_layer N s i h w in record { memory = g.memory ∙ ap (edits true N s i) (sym e); layers = sym e }
 
   pub all-added : {t : List ℕ} {r : ℕ} → on N s 0 i ≢ 1 → old ≡ 0 → Ended true s N i (suc (top N)) t r → Moved true s N i t r
-  unfolding movedBy
-  all-added h w g = let e = add-all N s i h w in record { memory = g.memory ∙ ap (edits true N s i) (sym e); layers = g.layers ∙ sym e }
+  unfolding moved_by
+  all-added h w g = let e = add_all_lem N s i h w in record { memory = g.memory ∙ ap (edits true N s i) (sym e); layers = g.layers ∙ sym e }
 
-  pub some-removed : {t : List ℕ} {r : ℕ} → on N s 0 i ≢ 0 → Ended false s N i (climb N s i 0 (top N)) t r → Moved false s N i t r
-  unfolding movedBy
-  some-removed h g =
-      let e = remove-some N s i (omega (arith, h, on-lt N s 0 i)) in
+  pub some_removed : {t : List ℕ} {r : ℕ} → on N s 0 i ≢ 0 → Ended false s N i (climb N s i 0 (top N)) t r → Moved false s N i t r
+  unfolding moved_by
+  some_removed h g =
+      let e = remove_some N s i (omega (arith, h, on_lt N s 0 i)) in
       record { memory = g.memory ∙ ap (edits false N s i) (sym e); layers = g.layers ∙ sym e }
 
   -- whether it was held
-  pub held-is : (set : Bool) → saysHeld set (layersOf set N s i) ≡ holds N s i
-  held-is set = go set (ℕ_discrete (on N s 0 i) 1) (ℕ_discrete old 0)
+  pub held_is : (set : Bool) → says_held set (layers_of set N s i) ≡ holds N s i
+  held_is set = go set (ℕ_discrete (on N s 0 i) 1) (ℕ_discrete old 0)
     where
-      go : (x : Bool) → Dec (on N s 0 i ≡ 1) → Dec (old ≡ 0) → saysHeld x (layersOf x N s i) ≡ holds N s i
+      go : (x : Bool) → Dec (on N s 0 i ≡ 1) → Dec (old ≡ 0) → says_held x (layers_of x N s i) ≡ holds N s i
       go true (yes h) d = rw (add_none N s i h, eq-eqb (on N s 0 i) 1 h)
-      go true (no h) (yes w) = rw (add-all N s i h w, ne_eqb (suc (top N)) 0 (λ e. omega arith), ne_eqb (on N s 0 i) 1 h)
-      go true (no h) (no w) = rw (add-one-layer N s i h w, ne_eqb (on N s 0 i) 1 h)
+      go true (no h) (yes w) = rw (add_all_lem N s i h w, ne_eqb (suc (top N)) 0 (λ e. omega arith), ne_eqb (on N s 0 i) 1 h)
+      go true (no h) (no w) = rw (add_one_layer N s i h w, ne_eqb (on N s 0 i) 1 h)
       go false (yes h) d =
-          let c : climb N s i 0 (top N) ≢ 0 = climb-some N s i 0 (top N) in
-          rw (remove-some N s i h, ne_eqb (climb N s i 0 (top N)) 0 c, eq-eqb (on N s 0 i) 1 h)
-      go false (no h) d = rw (remove-none N s i h, ne_eqb (on N s 0 i) 1 h)
+          let c : climb N s i 0 (top N) ≢ 0 = climb_some N s i 0 (top N) in
+          rw (remove_some N s i h, ne_eqb (climb N s i 0 (top N)) 0 c, eq-eqb (on N s 0 i) 1 h)
+      go false (no h) d = rw (remove_none N s i h, ne_eqb (on N s 0 i) 1 h)
 
 -- the id has its place, and v is its word w with its bit set or cleared
 module _ {s : List ℕ} {i N a w : ℕ} (z : Inside s i N a w) (set : Bool) {v : ℕ} (e : v ≡ change set w (i % 64)) where
   -- the word stays as it is exactly if the bit is so already
-  pub bit-so : v ≡ w → on N s 0 i ≡ cond set 1 0
+  pub bit_so : v ≡ w → on N s 0 i ≡ cond set 1 0
   unfolding on
-  bit-so q = sym (ap (λ (x : ℕ). bit x (i % 64)) z.word-is) ∙ kept-change set w (i % 64) (omega arith) (sym e ∙ q)
+  bit_so q = sym (ap (λ (x : ℕ). bit x (i % 64)) z.word-is) ∙ kept_change set w (i % 64) (omega arith) (sym e ∙ q)
 
-  pub bit-not-so : w < 2 ^ 64 → v ≢ w → on N s 0 i ≢ cond set 1 0
+  pub bit_not_so : w < 2 ^ 64 → v ≢ w → on N s 0 i ≢ cond set 1 0
   unfolding on
-  bit-not-so small n q = n (e ∙ change-kept set w (i % 64) (omega arith) small (ap (λ (x : ℕ). bit x (i % 64)) z.word-is ∙ q))
+  bit_not_so small n q = n (e ∙ change_kept set w (i % 64) (omega arith) small (ap (λ (x : ℕ). bit x (i % 64)) z.word-is ∙ q))
 
   -- it is written to layer 0
-  pub id-edited : {t : List ℕ} → t ≡ set_at s (a + i / 64) v → Edited set s N i 0 t v
+  pub id_edited : {t : List ℕ} → t ≡ set_at s (a + i / 64) v → Edited set s N i 0 t v
   unfolding anc
-  id-edited t-is = edited z.placed z.start_is refl set (e ∙ ap (λ (x : ℕ). change set x (i % 64)) z.word-is) t-is
+  id_edited t-is = edited z.placed z.start_is refl set (e ∙ ap (λ (x : ℕ). change set x (i % 64)) z.word-is) t-is
 
   pub id-begun : {t : List ℕ} → t ≡ set_at s (a + i / 64) v → Begun set s N i 1 t
-  id-begun t-is = first set z.placed (id-edited t-is)
+  id-begun t-is = first set z.placed (id_edited t-is)
 
-pub id-inside : {s : List ℕ} {i N a w : ℕ} → Inside s i N a w → a + i / 64 < length s
-id-inside {s} {i} {N} z =
+pub id_inside : {s : List ℕ} {i N a w : ℕ} → Inside s i N a w → a + i / 64 < length s
+id_inside {s} {i} {N} z =
     let f = id-word z.placed.store z.placed.below z.start_is in
     omega (arith, f.here, f.inside, z.start_is)
 
@@ -107,27 +107,27 @@ id-inside {s} {i} {N} z =
 
 module _ (s : List ℕ) (i : ℕ) where
   module _ (set : Bool) (past : Asked) where
-    pub change-2 : is_store s ≡ false → Settled askedPaper (move_of set (stays past s) s i) (AskedRefused 2) s
+    pub change_2 : is_store s ≡ false → Settled asked_paper (move_of set (stays past s) s i) (AskedRefused 2) s
     unfolding move_of
-    change-2 h = settled (rw h)
+    change_2 h = settled (rw h)
 
-    pub change-past : Outside s i → Settled askedPaper (move_of set (stays past s) s i) past s
+    pub change_past : Outside s i → Settled asked_paper (move_of set (stays past s) s i) past s
     unfolding move_of
-    change-past o = settled (rw (is-store o.store, o.store.names, o.past))
+    change_past o = settled (rw (is_store_lem o.store, o.store.names, o.past))
 
-    pub change-is : (N : ℕ) → Placed s N i 0 → (r : ℕ) (t : List ℕ) → Moved set s N i t r
-        → Settled askedPaper (move_of set (stays past s) s i) (Is (saysHeld set r)) t
+    pub change_is : (N : ℕ) → Placed s N i 0 → (r : ℕ) (t : List ℕ) → Moved set s N i t r
+        → Settled asked_paper (move_of set (stays past s) s i) (Is (says_held set r)) t
     unfolding move_of
-    change-is N z r t m =
-        let e : saysHeld set r ≡ holds N s i = ap (saysHeld set) m.layers ∙ held-is N s i set in
-        settled (rw (is-store z.store, z.store.names, lt-ltb i N z.below, ← e, ← m.memory))
+    change_is N z r t m =
+        let e : says_held set r ≡ holds N s i = ap (says_held set) m.layers ∙ held_is N s i set in
+        settled (rw (is_store_lem z.store, z.store.names, lt-ltb i N z.below, ← e, ← m.memory))
 
 -- ---- a list of ids
 
 -- a turn of the loops: the id at place k, and those after it
-pub below-turn : (N : ℕ) (ids : List ℕ) (k : ℕ) → k < length ids → all_below N (drop k ids) ≡ (ltb (get_or ids k 0) N && all_below N (drop (suc k) ids))
+pub below_turn : (N : ℕ) (ids : List ℕ) (k : ℕ) → k < length ids → all_below N (drop k ids) ≡ (ltb (get_or ids k 0) N && all_below N (drop (suc k) ids))
 unfolding all_below
-below-turn N ids k h = ap (all_below N) (drop-cons ids k 0 h)
+below_turn N ids k h = ap (all_below N) (drop-cons ids k 0 h)
 
 below_end : (N : ℕ) (ids : List ℕ) (k : ℕ) → k ≡ length ids → all_below N (drop k ids) ≡ true
 unfolding all_below
@@ -136,7 +136,7 @@ below_end N ids k h = ap (all_below N) (ap (λ (x : ℕ). drop x ids) h ∙ drop
 -- one id more is looked at: what was found so far, and its test
 pub below_next : (N : ℕ) (ids : List ℕ) (k : ℕ) (a b : Bool) → k < length ids → b ≡ ltb (get_or ids k 0) N → (a && all_below N (drop k ids)) ≡ all_below N ids
     → ((a && b) && all_below N (drop (k + 1) ids)) ≡ all_below N ids
-below_next N ids k a b h e w = go a ∙ ap (λ (x : Bool). a && x) (sym (below-turn N ids k h ∙ ap (λ (x : Bool). x && rest (suc k)) (sym e))) ∙ w
+below_next N ids k a b h e w = go a ∙ ap (λ (x : Bool). a && x) (sym (below_turn N ids k h ∙ ap (λ (x : Bool). x && rest (suc k)) (sym e))) ∙ w
   where
     rest : ℕ → Bool
     rest j = all_below N (drop j ids)
@@ -154,24 +154,24 @@ below_all N ids k a h w = go a ∙ w
     go false = refl
 
 pub add_turn : (N : ℕ) (s ids : List ℕ) (k : ℕ) → k < length ids
-    → addAll N s (drop k ids) ≡ addAll N (movedBy true N s (get_or ids k 0)) (drop (suc k) ids)
-unfolding addAll
-add_turn N s ids k h = ap (addAll N s) (drop-cons ids k 0 h)
+    → add_all N s (drop k ids) ≡ add_all N (moved_by true N s (get_or ids k 0)) (drop (suc k) ids)
+unfolding add_all
+add_turn N s ids k h = ap (add_all N s) (drop-cons ids k 0 h)
 
-pub add-end : (N : ℕ) (s ids : List ℕ) (k : ℕ) → k ≡ length ids → addAll N s (drop k ids) ≡ s
-unfolding addAll
-add-end N s ids k h = ap (addAll N s) (ap (λ (x : ℕ). drop x ids) h ∙ drop-length ids)
+pub add_end : (N : ℕ) (s ids : List ℕ) (k : ℕ) → k ≡ length ids → add_all N s (drop k ids) ≡ s
+unfolding add_all
+add_end N s ids k h = ap (add_all N s) (ap (λ (x : ℕ). drop x ids) h ∙ drop-length ids)
 
 module _ (s ids : List ℕ) where
-  pub list-2 : is_store s ≡ false → Settled didPaper (addListOf s ids) (DidRefused 2) s
-  unfolding addListOf
-  list-2 h = settled (rw h)
+  pub list_2 : is_store s ≡ false → Settled did_paper (add_list_of s ids) (DidRefused 2) s
+  unfolding add_list_of
+  list_2 h = settled (rw h)
 
   module _ (N : ℕ) (z : StoreOf N s) where
-    pub list-3 : all_below N ids ≡ false → Settled didPaper (addListOf s ids) (DidRefused 3) s
-    unfolding addListOf
-    list-3 h = settled (rw (is-store z, z.names, h))
+    pub list_3 : all_below N ids ≡ false → Settled did_paper (add_list_of s ids) (DidRefused 3) s
+    unfolding add_list_of
+    list_3 h = settled (rw (is_store_lem z, z.names, h))
 
-    pub list_done : (t : List ℕ) → all_below N ids ≡ true → t ≡ addAll N s ids → Settled didPaper (addListOf s ids) Done t
-    unfolding addListOf
-    list_done t h e = settled (rw (is-store z, z.names, h, ← e))
+    pub list_done : (t : List ℕ) → all_below N ids ≡ true → t ≡ add_all N s ids → Settled did_paper (add_list_of s ids) Done t
+    unfolding add_list_of
+    list_done t h e = settled (rw (is_store_lem z, z.names, h, ← e))

@@ -2,7 +2,7 @@
 use Rattle.std.specs.Prelude.{Bool, false, List, ◌≡◌, ℕ, ◌/◌, ◌<◌}
 use Rattle.store.specs.Word.{word, anc}
 use Rattle.set_member.specs.Place.{Placed}
-use Rattle.set_edit.specs.Edit.{edit, edits, layersOf, wordLeft, movedBy}
+use Rattle.set_edit.specs.Edit.{edit, edits, layers_of, word_left, moved_by}
 
 -- the bit over i is set, or cleared, in layer k, and r is the word that this leaves
 pub record Edited (set : Bool) (s : List ℕ) (N i k : ℕ) (t : List ℕ) (r : ℕ) : Type 0 where
@@ -17,7 +17,7 @@ pub record Begun (set : Bool) (s : List ℕ) (N i k : ℕ) (t : List ℕ) : Type
 -- it is cleared there, and none of their words keeps a bit
 pub record Climbing (s : List ℕ) (N i k : ℕ) (t : List ℕ) : Type 0 where
   pub begun : Begun false s N i k t
-  pub zeros : (j : ℕ) → j < k → wordLeft N s i j ≡ 0
+  pub zeros : (j : ℕ) → j < k → word_left N s i j ≡ 0
 
 -- m layers were written, and r says so
 pub record Ended (set : Bool) (s : List ℕ) (N i m : ℕ) (t : List ℕ) (r : ℕ) : Type 0 where
@@ -26,5 +26,5 @@ pub record Ended (set : Bool) (s : List ℕ) (N i m : ℕ) (t : List ℕ) (r : �
 
 -- i was added, or removed, and r says how many layers were written
 pub record Moved (set : Bool) (s : List ℕ) (N i : ℕ) (t : List ℕ) (r : ℕ) : Type 0 where
-  pub memory : t ≡ movedBy set N s i
-  pub layers : r ≡ layersOf set N s i
+  pub memory : t ≡ moved_by set N s i
+  pub layers : r ≡ layers_of set N s i

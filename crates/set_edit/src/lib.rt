@@ -2,10 +2,10 @@
 // answers how many layers it wrote.
 ghost use Rattle.std.specs.Prelude.{true, false, List, ◌≡◌, ℕ, suc, ◌+◌, ◌/◌, ◌≤◌, ◌<◌, length, set};
 ghost use Rattle.util.specs.Outcome.{Settled};
-ghost use Rattle.store.specs.Answer.{askedPaper, didPaper};
-ghost use Rattle.store.specs.Layout.{top, maxCap, StoreOf};
+ghost use Rattle.store.specs.Answer.{asked_paper, did_paper};
+ghost use Rattle.store.specs.Layout.{top, max_cap, StoreOf};
 ghost use Rattle.set_member.specs.Place.{Placed, Inside};
-ghost use Rattle.set_edit.specs.Calls.{addOf, removeOf, all_below, addAll, addListOf};
+ghost use Rattle.set_edit.specs.Calls.{add_of, remove_of, all_below, add_all, add_list_of};
 ghost use Rattle.set_edit.specs.Edit.{climb};
 ghost use Rattle.set_edit.specs.Steps.{Edited, Begun, Climbing, Ended, Moved};
 
@@ -108,7 +108,7 @@ fn remove_in(store: &mut [u64], n: usize, a: usize, id: u32, old: u64) -> usize
 
 // Adds an id; answers whether it was held already.
 pub fn add(store: &mut [u64], id: u32) -> Asked
-    ensures { Settled askedPaper (addOf store.old id) result store.new }
+    ensures { Settled asked_paper (add_of store.old id) result store.new }
 {
     match set_member::locate(store, id) {
         Place::In(n, a, old) => Asked::Is(add_in(store, n, a, id, old) == 0),
@@ -119,7 +119,7 @@ pub fn add(store: &mut [u64], id: u32) -> Asked
 
 // Removes an id; answers whether it was held.
 pub fn remove(store: &mut [u64], id: u32) -> Asked
-    ensures { Settled askedPaper (removeOf store.old id) result store.new }
+    ensures { Settled asked_paper (remove_of store.old id) result store.new }
 {
     match set_member::locate(store, id) {
         Place::In(n, a, old) => Asked::Is(remove_in(store, n, a, id, old) != 0),
@@ -130,7 +130,7 @@ pub fn remove(store: &mut [u64], id: u32) -> Asked
 
 // Whether every id of the list has room. All are looked at, with no branch and in 32 bits, so that many are compared at a time.
 fn all_below(ids: &[u32], n: usize) -> bool
-    requires { n ≤ maxCap }
+    requires { n ≤ max_cap }
     ensures { result ≡ all_below n ids.now }
 {
     let limit = n as u32;
@@ -146,7 +146,7 @@ fn all_below(ids: &[u32], n: usize) -> bool
 // Adds every id of a list that has room for all.
 fn add_all(store: &mut [u64], n: usize, ids: &[u32])
     requires { (StoreOf n store.old) × (all_below n ids.now ≡ true) }
-    ensures { store.new ≡ addAll n store.old ids.now }
+    ensures { store.new ≡ add_all n store.old ids.now }
 {
     let a = store::start(store.len(), n, 0);
     let mut i = 0;
@@ -160,7 +160,7 @@ fn add_all(store: &mut [u64], n: usize, ids: &[u32])
 
 // Adds a list of ids: all, or none where one has no room.
 pub fn add_list(store: &mut [u64], ids: &[u32]) -> Did
-    ensures { Settled didPaper (addListOf store.old ids.now) result store.new }
+    ensures { Settled did_paper (add_list_of store.old ids.now) result store.new }
 {
     let n = store::capacity(store);
     if n == 0 {

@@ -10,17 +10,17 @@ use lib.Count.{count_trailing_zeros}
 use lib.ListN.{length, get_or, get_or-eq_default}
 use lib.Pow.{pow_mono}
 use Rattle.util.specs.Word.{bit, flip, places}
-use Rattle.util.proofs.Bits.{shl_one, bit-lt, bit-of-zero, bit-and, bit-flip, ones-on, ones-off}
-use Rattle.util.proofs.Places.{Lowest, lowest, places-first, places-none}
+use Rattle.util.proofs.Bits.{shl_one, bit_lt, bit_of_zero, bit-bit_and, bit-flip, ones_on, ones_off}
+use Rattle.util.proofs.Places.{Lowest, lowest, places_first, places_none}
 use Rattle.store.specs.Word.{Words64}
 use Rattle.set_free.specs.Calls.{first_or}
-use Rattle.set_free.specs.Steps.{full, FullIn, Skipped, Opened, freeAt, freeIn}
+use Rattle.set_free.specs.Steps.{full, FullIn, Skipped, Opened, free_at, free_in}
 
 -- ---- words that are full
 
 -- of two words that are full together each is
-pub and-full : (x y : ℕ) → x ≤ full → y ≤ full → bit_and x y ≡ full → (x ≡ full) × (y ≡ full)
-and-full x y hx hy e = (omega (arith, and_le_l x y), omega (arith, and_le_r x y))
+pub and_full : (x y : ℕ) → x ≤ full → y ≤ full → bit_and x y ≡ full → (x ≡ full) × (y ≡ full)
+and_full x y hx hy e = (omega (arith, and_le_l x y), omega (arith, and_le_r x y))
 
 -- some words more, or one
 full-more : (ws : List ℕ) (q r m : ℕ) → FullIn ws q r → FullIn ws r m → FullIn ws q m
@@ -43,9 +43,9 @@ full-four ws i small e =
     let s = small i in
     let l1 : bit_and w0 w1 ≤ full = omega (arith, and_le_l w0 w1) in
     let l2 : bit_and (bit_and w0 w1) w2 ≤ full = omega (arith, and_le_l (bit_and w0 w1) w2) in
-    let a = and-full (bit_and (bit_and w0 w1) w2) w3 l2 (omega (arith, small (i + 3))) e in
-    let b = and-full (bit_and w0 w1) w2 l1 (omega (arith, small (i + 2))) a.0 in
-    let c = and-full w0 w1 (omega arith) (omega (arith, small (i + 1))) b.0 in
+    let a = and_full (bit_and (bit_and w0 w1) w2) w3 l2 (omega (arith, small (i + 3))) e in
+    let b = and_full (bit_and w0 w1) w2 l1 (omega (arith, small (i + 2))) a.0 in
+    let c = and_full w0 w1 (omega arith) (omega (arith, small (i + 1))) b.0 in
     λ j u v. at j c.0 c.1 b.1 a.1 u v (ℕ_discrete j i) (ℕ_discrete j (i + 1)) (ℕ_discrete j (i + 2))
   where
     at : (j : ℕ) → get_or ws i 0 ≡ full → get_or ws (i + 1) 0 ≡ full → get_or ws (i + 2) 0 ≡ full → get_or ws (i + 3) 0 ≡ full → i ≤ j → j < i + 4
@@ -55,15 +55,15 @@ full-four ws i small e =
     at j e0 e1 e2 e3 u v (no n) (no m) (yes z) = ap (λ (x : ℕ). get_or ws x 0) z ∙ e2
     at j e0 e1 e2 e3 u v (no n) (no m) (no k) = let z : j ≡ i + 3 = omega arith in ap (λ (x : ℕ). get_or ws x 0) z ∙ e3
 
-pub skipped-start : (ws : List ℕ) (q : ℕ) → Skipped ws q q
-skipped-start ws q = record { from = omega arith; upto = omega arith; passed = λ i a b. absurd (omega arith) }
+pub skipped_start : (ws : List ℕ) (q : ℕ) → Skipped ws q q
+skipped_start ws q = record { from = omega arith; upto = omega arith; passed = λ i a b. absurd (omega arith) }
 
 module _ {ws : List ℕ} {q r : ℕ} (h : Skipped ws q r) where
-  pub skipped-one : r < length ws → get_or ws r 0 ≡ full → Skipped ws q (r + 1)
-  skipped-one l e = record { from = omega (arith, h.from); upto = omega arith; passed = full-one ws q r h.passed e }
+  pub skipped_one : r < length ws → get_or ws r 0 ≡ full → Skipped ws q (r + 1)
+  skipped_one l e = record { from = omega (arith, h.from); upto = omega arith; passed = full-one ws q r h.passed e }
 
-  pub skipped-eight : r + 8 ≤ length ws → FullIn ws r (r + 4) → FullIn ws (r + 4) (r + 4 + 4) → Skipped ws q (r + 8)
-  skipped-eight l a b =
+  pub skipped_eight : r + 8 ≤ length ws → FullIn ws r (r + 4) → FullIn ws (r + 4) (r + 4 + 4) → Skipped ws q (r + 8)
+  skipped_eight l a b =
       let z : r + 4 + 4 ≡ r + 8 = omega arith in
       record {
         from = omega (arith, h.from);
@@ -71,12 +71,12 @@ module _ {ws : List ℕ} {q r : ℕ} (h : Skipped ws q r) where
         passed = full-more ws q (r + 4) (r + 8) (full-more ws q r (r + 4) h.passed a) (subst (FullIn ws (r + 4)) z b);
       }
 
-  pub skipped-on : {m : ℕ} → Skipped ws r m → Skipped ws q m
-  skipped-on {m} g = record { from = omega (arith, h.from, g.from); upto = omega (arith, h.upto, g.upto); passed = full-more ws q r m h.passed g.passed }
+  pub skipped_on : {m : ℕ} → Skipped ws r m → Skipped ws q m
+  skipped_on {m} g = record { from = omega (arith, h.from, g.from); upto = omega (arith, h.upto, g.upto); passed = full-more ws q r m h.passed g.passed }
 
   -- at the end there is no word, and 0 is not full
-  pub opened-where : (r < length ws → get_or ws r 0 ≢ full) → Opened ws q r
-  opened-where n = record { skipped = h; some = go (dec_lt r (length ws)) }
+  pub opened_where : (r < length ws → get_or ws r 0 ≢ full) → Opened ws q r
+  opened_where n = record { skipped = h; some = go (dec_lt r (length ws)) }
     where
       go : Dec (r < length ws) → get_or ws r 0 ≢ full
       go (yes l) = λ e. n l e
@@ -87,22 +87,22 @@ module _ {ws : List ℕ} {q r : ℕ} (h : Skipped ws q r) where
 -- of word q, the ids from place t on that are free: bit j of it tells whether id 64 q + j is, and no bit below t is set
 record Left (ws : List ℕ) (q t left : ℕ) : Type 0 where
   small : left ≤ full
-  on : (j : ℕ) → t ≤ j → j < 64 → freeAt ws (64 * q + j) ≡ bit left j
+  on : (j : ℕ) → t ≤ j → j < 64 → free_at ws (64 * q + j) ≡ bit left j
   off : (j : ℕ) → j < t → bit left j ≡ 0
 
 module _ (ws : List ℕ) (q : ℕ) (small : get_or ws q 0 ≤ full) where
-  free-bit : (j : ℕ) → j < 64 → freeAt ws (64 * q + j) ≡ bit (flip (get_or ws q 0)) j
-  free-bit j l =
+  free_bit : (j : ℕ) → j < 64 → free_at ws (64 * q + j) ≡ bit (flip (get_or ws q 0)) j
+  free_bit j l =
       let d : (64 * q + j) / 64 ≡ q = omega arith in
       let m : (64 * q + j) % 64 ≡ j = omega arith in
       ap₂ (λ (x y : ℕ). 1 - bit (get_or ws x 0) y) d m ∙ sym (bit-flip (get_or ws q 0) j (omega arith) l)
 
   left-all : Left ws q 0 (flip (get_or ws q 0))
-  left-all = record { small = omega arith; on = λ j a l. free-bit j l; off = λ j l. absurd (omega arith) }
+  left-all = record { small = omega arith; on = λ j a l. free_bit j l; off = λ j l. absurd (omega arith) }
 
   -- those before place t taken out
-  left-from : (t : ℕ) → t < 64 → Left ws q t (bit_and (flip (get_or ws q 0)) (flip (2 ^ t - 1)))
-  left-from t h = record { small = omega (arith, and_le_l w (flip (2 ^ t - 1))); on = λ j a l. free-bit j l ∙ kept j a l; off = gone }
+  left_from : (t : ℕ) → t < 64 → Left ws q t (bit_and (flip (get_or ws q 0)) (flip (2 ^ t - 1)))
+  left_from t h = record { small = omega (arith, and_le_l w (flip (2 ^ t - 1))); on = λ j a l. free_bit j l ∙ kept j a l; off = gone }
     where
       w : ℕ
       w = flip (get_or ws q 0)
@@ -111,26 +111,26 @@ module _ (ws : List ℕ) (q : ℕ) (small : get_or ws q 0 ≤ full) where
       before j l = bit-flip (2 ^ t - 1) j (omega (arith, pow_mono {i = t} {j = 64} (omega arith))) l
 
       kept : (j : ℕ) → t ≤ j → j < 64 → bit w j ≡ bit (bit_and w (flip (2 ^ t - 1))) j
-      kept j a l = omega (arith, bit-and w (flip (2 ^ t - 1)) j, before j l, ones-off t j a, bit-lt w j)
+      kept j a l = omega (arith, bit-bit_and w (flip (2 ^ t - 1)) j, before j l, ones_off t j a, bit_lt w j)
 
       gone : (j : ℕ) → j < t → bit (bit_and w (flip (2 ^ t - 1))) j ≡ 0
-      gone j l = omega (arith, bit-and w (flip (2 ^ t - 1)) j, before j (omega arith), ones-on t j l)
+      gone j l = omega (arith, bit-bit_and w (flip (2 ^ t - 1)) j, before j (omega arith), ones_on t j l)
 
 module _ {ws : List ℕ} {q t left : ℕ} (h : Left ws q t left) where
   -- none is free in a word of which nothing is left
-  none_left : left ≡ 0 → (i : ℕ) → 64 * q + t ≤ i → i < 64 * q + 64 → freeAt ws i ≡ 0
+  none_left : left ≡ 0 → (i : ℕ) → 64 * q + t ≤ i → i < 64 * q + 64 → free_at ws i ≡ 0
   none_left e i a b =
       let z : 64 * q + (i - 64 * q) ≡ i = omega arith in
-      ap (freeAt ws) (sym z) ∙ h.on (i - 64 * q) (omega arith) (omega arith) ∙ ap (λ (x : ℕ). bit x (i - 64 * q)) e ∙ bit-of-zero (i - 64 * q)
+      ap (free_at ws) (sym z) ∙ h.on (i - 64 * q) (omega arith) (omega arith) ∙ ap (λ (x : ℕ). bit x (i - 64 * q)) e ∙ bit_of_zero (i - 64 * q)
 
   -- the first free id is at the lowest bit of what is left
   record First (b : ℕ) : Type 0 where
     from : t ≤ b
-    free : freeAt ws (64 * q + b) ≢ 0
-    taken : (i : ℕ) → 64 * q + t ≤ i → i < 64 * q + b → freeAt ws i ≡ 0
+    free : free_at ws (64 * q + b) ≢ 0
+    taken : (i : ℕ) → 64 * q + t ≤ i → i < 64 * q + b → free_at ws i ≡ 0
 
-  first-left : left ≢ 0 → First (count_trailing_zeros 64 left)
-  first-left n =
+  first_left : left ≢ 0 → First (count_trailing_zeros 64 left)
+  first_left n =
       let z = lowest left (omega (arith, h.small)) (omega arith) in
       go (count_trailing_zeros 64 left) z (dec_lt (count_trailing_zeros 64 left) t)
     where
@@ -142,22 +142,22 @@ module _ {ws : List ℕ} {q t left : ℕ} (h : Left ws q t left) where
             free = λ e. omega (arith, sym (h.on b (omega arith) z.inside) ∙ e, z.on);
             taken = λ i a u.
                 let y : 64 * q + (i - 64 * q) ≡ i = omega arith in
-                ap (freeAt ws) (sym y) ∙ h.on (i - 64 * q) (omega arith) (omega (arith, z.inside)) ∙ z.first (i - 64 * q) (omega arith);
+                ap (free_at ws) (sym y) ∙ h.on (i - 64 * q) (omega arith) (omega (arith, z.inside)) ∙ z.first (i - 64 * q) (omega arith);
           }
 
 -- ---- the answer
 
 -- id p is free and none before it from `first` on
-first-at : (f : ℕ → ℕ) (n first p : ℕ) → first ≤ p → ((i : ℕ) → first ≤ i → i < p → f i ≡ 0) → f p ≢ 0 → min p n ≡ first_or n (places f first (n - first))
-first-at f n first p l zeros some = go (dec_lt p n)
+first_at : (f : ℕ → ℕ) (n first p : ℕ) → first ≤ p → ((i : ℕ) → first ≤ i → i < p → f i ≡ 0) → f p ≢ 0 → min p n ≡ first_or n (places f first (n - first))
+first_at f n first p l zeros some = go (dec_lt p n)
   where
     go : Dec (p < n) → min p n ≡ first_or n (places f first (n - first))
-    go (yes h) = let e : min p n ≡ p = omega arith in e ∙ sym (ap (first_or n) (places-first f first p (n - first) l (omega arith) zeros some))
-    go (no h) = let e : min p n ≡ n = omega arith in e ∙ sym (ap (first_or n) (places-none f first (n - first) (λ i a b. zeros i a (omega arith))))
+    go (yes h) = let e : min p n ≡ p = omega arith in e ∙ sym (ap (first_or n) (places_first f first p (n - first) l (omega arith) zeros some))
+    go (no h) = let e : min p n ≡ n = omega arith in e ∙ sym (ap (first_or n) (places_none f first (n - first) (λ i a b. zeros i a (omega arith))))
 
 -- what is left of the first id's word w, as the code has it
-abbrev pub ownLeft : ℕ → ℕ → ℕ
-ownLeft first w = bit_and (full - w) (full - (1 * 2 ^ (first % 64) % 2 ^ 64 - 1))
+abbrev pub own_left : ℕ → ℕ → ℕ
+own_left first w = bit_and (full - w) (full - (1 * 2 ^ (first % 64) % 2 ^ 64 - 1))
 
 module _ (ws : List ℕ) (n first : ℕ) where
   abbrev q : ℕ
@@ -166,41 +166,41 @@ module _ (ws : List ℕ) (n first : ℕ) where
   abbrev t : ℕ
   t = first % 64
 
-  own-left : (w : ℕ) → w ≡ get_or ws q 0 → w ≤ full → Left ws q t (ownLeft first w)
-  own-left w e small =
+  own_left_lem : (w : ℕ) → w ≡ get_or ws q 0 → w ≤ full → Left ws q t (own_left first w)
+  own_left_lem w e small =
       subst (Left ws q t)
       (sym (ap₂ (λ (x m : ℕ). bit_and (full - x) (full - (m - 1))) e (shl_one t (omega arith))))
-      (left-from ws q (omega (arith, e)) t (omega arith))
+      (left_from ws q (omega (arith, e)) t (omega arith))
 
   -- in the word of the first id
-  pub own-word : (w : ℕ) → w ≡ get_or ws (first / 64) 0 → w ≤ full → ownLeft first w ≢ 0
-      → min (64 * (first / 64) + count_trailing_zeros 64 (ownLeft first w)) n ≡ first_or n (freeIn ws n first)
-  own-word w e small some =
-      let l = first-left (own-left w e small) some in
-      first-at (freeAt ws) n first (64 * q + count_trailing_zeros 64 (ownLeft first w)) (omega (arith, l.from)) (λ i a u. l.taken i (omega arith) u) l.free
+  pub own_word : (w : ℕ) → w ≡ get_or ws (first / 64) 0 → w ≤ full → own_left first w ≢ 0
+      → min (64 * (first / 64) + count_trailing_zeros 64 (own_left first w)) n ≡ first_or n (free_in ws n first)
+  own_word w e small some =
+      let l = first_left (own_left_lem w e small) some in
+      first_at (free_at ws) n first (64 * q + count_trailing_zeros 64 (own_left first w)) (omega (arith, l.from)) (λ i a u. l.taken i (omega arith) u) l.free
 
   -- in the next word that is not full
-  pub next_word : (w p v : ℕ) → w ≡ get_or ws (first / 64) 0 → w ≤ full → ownLeft first w ≡ 0
+  pub next_word : (w p v : ℕ) → w ≡ get_or ws (first / 64) 0 → w ≤ full → own_left first w ≡ 0
       → Opened ws (first / 64 + 1) p → v ≡ get_or ws p 0 → v ≤ full
-      → min (64 * p + count_trailing_zeros 64 (full - v)) n ≡ first_or n (freeIn ws n first)
+      → min (64 * p + count_trailing_zeros 64 (full - v)) n ≡ first_or n (free_in ws n first)
   next_word w p v e small none o v-is small-v =
-      let l = first-left there (λ z. o.some (omega (arith, v-is))) in
-      first-at (freeAt ws) n first (64 * p + count_trailing_zeros 64 (full - v)) (omega (arith, o.skipped.from))
+      let l = first_left there (λ z. o.some (omega (arith, v-is))) in
+      first_at (free_at ws) n first (64 * p + count_trailing_zeros 64 (full - v)) (omega (arith, o.skipped.from))
       (λ i a u. at i a u (dec_lt i (64 * p)) (l.taken i)) l.free
     where
       there : Left ws p 0 (full - v)
       there = subst (Left ws p 0) (ap (λ (x : ℕ). full - x) (sym v-is)) (left-all ws p (omega (arith, v-is)))
 
-      full-id : (i : ℕ) → get_or ws (i / 64) 0 ≡ full → freeAt ws i ≡ 0
+      full-id : (i : ℕ) → get_or ws (i / 64) 0 ≡ full → free_at ws i ≡ 0
       full-id i f =
           let d : 64 * (i / 64) + 0 ≤ i = omega arith in
           none_left (left-all ws (i / 64) (omega arith)) (ap flip f) i d (omega arith)
 
-      before : (i : ℕ) → first ≤ i → i < 64 * p → Dec (i < 64 * q + 64) → freeAt ws i ≡ 0
-      before i a u (yes l) = none_left (own-left w e small) none i (omega arith) l
+      before : (i : ℕ) → first ≤ i → i < 64 * p → Dec (i < 64 * q + 64) → free_at ws i ≡ 0
+      before i a u (yes l) = none_left (own_left_lem w e small) none i (omega arith) l
       before i a u (no l) = full-id i (o.skipped.passed (i / 64) (omega arith) (omega arith))
 
       at : (i : ℕ) → first ≤ i → i < 64 * p + count_trailing_zeros 64 (full - v) → Dec (i < 64 * p)
-          → (64 * p + 0 ≤ i → i < 64 * p + count_trailing_zeros 64 (full - v) → freeAt ws i ≡ 0) → freeAt ws i ≡ 0
+          → (64 * p + 0 ≤ i → i < 64 * p + count_trailing_zeros 64 (full - v) → free_at ws i ≡ 0) → free_at ws i ≡ 0
       at i a u (yes l) taken = before i a l (dec_lt i (64 * q + 64))
       at i a u (no l) taken = taken (omega arith) u

@@ -1,7 +1,7 @@
 -- What the private steps ask and answer, of layer 0 as a list of words.
 use Rattle.std.specs.Prelude.{List, ◌≢◌, ◌≡◌, ℕ, ◌-◌, ◌/◌, ◌%◌, ◌≤◌, ◌<◌, max, length, get_or}
 use Rattle.util.specs.Word.{bit, places}
-use Rattle.store.specs.Layout.{maxCap}
+use Rattle.store.specs.Layout.{max_cap}
 
 -- a word with every bit set
 abbrev pub full : ℕ
@@ -28,14 +28,14 @@ pub record Opened (ws : List ℕ) (q r : ℕ) : Type 0 where
   pub some : get_or ws r 0 ≢ full
 
 -- 1 where id i is free
-abbrev pub freeAt : List ℕ → ℕ → ℕ
-freeAt ws i = 1 - bit (get_or ws (i / 64) 0) (i % 64)
+abbrev pub free_at : List ℕ → ℕ → ℕ
+free_at ws i = 1 - bit (get_or ws (i / 64) 0) (i % 64)
 
-abbrev pub freeIn : List ℕ → ℕ → ℕ → List ℕ
-freeIn ws n first = places (freeAt ws) first (n - first)
+abbrev pub free_in : List ℕ → ℕ → ℕ → List ℕ
+free_in ws n first = places (free_at ws) first (n - first)
 
 -- small enough that no sum wraps
 pub record Small (ws : List ℕ) (n first : ℕ) : Type 0 where
-  pub most : n ≤ maxCap
-  pub first-in : first ≤ maxCap
-  pub long : length ws ≤ maxCap
+  pub most : n ≤ max_cap
+  pub first_in_lem : first ≤ max_cap
+  pub long : length ws ≤ max_cap

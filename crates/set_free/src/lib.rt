@@ -1,10 +1,10 @@
 // The free search: the lowest id from 1 on that is not a member, by layer 0 alone.
 ghost use Rattle.std.specs.Prelude.{◌≡◌, ◌+◌, ◌^◌, ◌≤◌, ◌<◌, min, length};
 ghost use Rattle.util.specs.Outcome.{Settled};
-ghost use Rattle.store.specs.Answer.{foundPaper};
-ghost use Rattle.store.specs.Layout.{maxCap};
-ghost use Rattle.set_free.specs.Calls.{first_or, lowestOf, firstFreeOf};
-ghost use Rattle.set_free.specs.Steps.{full, FullIn, Skipped, Passed, Opened, Small, freeIn};
+ghost use Rattle.store.specs.Answer.{found_paper};
+ghost use Rattle.store.specs.Layout.{max_cap};
+ghost use Rattle.set_free.specs.Calls.{first_or, lowest_of, first_free_of};
+ghost use Rattle.set_free.specs.Steps.{full, FullIn, Skipped, Passed, Opened, Small, free_in};
 
 use store::Found;
 
@@ -74,7 +74,7 @@ fn open_word(layer: &[u64], q: usize) -> usize
 
 // The id, or n where it is none below n.
 fn within(id: usize, n: usize) -> u32
-    requires { n ≤ maxCap }
+    requires { n ≤ max_cap }
     ensures { result ≡ min id n }
 {
     if id < n { id as u32 } else { n as u32 }
@@ -84,7 +84,7 @@ fn within(id: usize, n: usize) -> u32
 // is not full.
 fn search(layer: &[u64], n: usize, first: usize) -> u32
     requires { Small layer.now n first }
-    ensures { result ≡ first_or n (freeIn layer.now n first) }
+    ensures { result ≡ first_or n (free_in layer.now n first) }
 {
     let q = first / 64;
     let before = (1u64 << (first % 64)) - 1;
@@ -99,7 +99,7 @@ fn search(layer: &[u64], n: usize, first: usize) -> u32
 
 // The lowest id from 1 on and below the capacity that is not a member, or the capacity where there is none; 0 of a slice that is no store.
 pub fn lowest_free(store: &[u64]) -> u32
-    ensures { result ≡ lowestOf store.now }
+    ensures { result ≡ lowest_of store.now }
 {
     let n = store::capacity(store);
     if n == 0 {
@@ -111,7 +111,7 @@ pub fn lowest_free(store: &[u64]) -> u32
 
 // The lowest id from 1 on and below the capacity that is not a member.
 pub fn first_free(store: &[u64]) -> Found
-    ensures { Settled foundPaper (firstFreeOf store.now) result tt }
+    ensures { Settled found_paper (first_free_of store.now) result tt }
 {
     let n = store::capacity(store);
     if n == 0 {

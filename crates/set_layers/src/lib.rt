@@ -1,7 +1,7 @@
 // Reading the layers of a store: the Rust's `get_from_layer` and its three layer slices.
 ghost use Rattle.std.specs.Prelude.{[], ◌∷◌, ◌≡◌, ◌≤◌, ◌<◌};
 ghost use Rattle.util.specs.Outcome.{Settled};
-ghost use Rattle.store.specs.Answer.{readPaper};
+ghost use Rattle.store.specs.Answer.{read_paper};
 ghost use Rattle.store.specs.Layout.{top, StoreOf};
 ghost use Rattle.store.specs.Word.{anc};
 ghost use Rattle.set_layers.specs.Calls.{word_of, OwnPart};
@@ -51,7 +51,7 @@ fn handed(store: &[u64], k: usize) -> &[u64]
 
 // The word at an index of a layer; 0 past the layer's end. The top layer has one word, whatever the index.
 pub fn get_from_layer(store: &[u64], layer: usize, idx: usize) -> Read
-    ensures { Settled readPaper (word_of store.now layer idx) result tt }
+    ensures { Settled read_paper (word_of store.now layer idx) result tt }
 {
     let n = store::capacity(store);
     if n == 0 {

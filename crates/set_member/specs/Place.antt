@@ -1,7 +1,7 @@
 -- Where an id stands: on paper, and as the facts that a call on an id goes on from.
 use Rattle.std.specs.Prelude.{false, cond, List, [], ◌∷◌, ◌≡◌, refl, ℕ, ◌/◌, ◌≤◌, ◌<◌, ltb, eqb, get_or}
 use Rattle.util.specs.Outcome.{Paper}
-use Rattle.store.specs.Layout.{top, layerStart, StoreOf}
+use Rattle.store.specs.Layout.{top, layer_start, StoreOf}
 use Rattle.store.specs.Word.{word}
 use Rattle.set_member.specs.declared.Place.{Place}
 use Rattle.set_member.specs.declared.Place.TheVariants.{In, Past, Nowhere}
@@ -17,13 +17,13 @@ placed [] = Nowhere
 placed (n ∷ []) = cond (eqb n 3) Past Nowhere
 placed (n ∷ v ∷ l) = In v (get_or l 0 0) (get_or l 1 0)
 
-abbrev placeBack : (r : Place) → placed (place r) ≡ r
-placeBack (In n a w) = refl
-placeBack Past = refl
-placeBack Nowhere = refl
+abbrev place_back : (r : Place) → placed (place r) ≡ r
+place_back (In n a w) = refl
+place_back Past = refl
+place_back Nowhere = refl
 
-abbrev pub placePaper : Paper Place
-placePaper = record { numbers = place; answer = placed; same = placeBack }
+abbrev pub place_paper : Paper Place
+place_paper = record { numbers = place; answer = placed; same = place_back }
 
 -- s is a store of capacity N, with room for id i, and k is the number of a layer
 pub record Placed (s : List ℕ) (N i k : ℕ) : Type 0 where
@@ -34,8 +34,8 @@ pub record Placed (s : List ℕ) (N i k : ℕ) : Type 0 where
 -- the same for layer 0, which starts at a, where the word of id i is w
 pub record Inside (s : List ℕ) (i n a w : ℕ) : Type 0 where
   pub placed : Placed s n i 0
-  pub start_is : a ≡ layerStart n 0
-  pub word-is : w ≡ word n s 0 (i / 64)
+  pub start_is : a ≡ layer_start n 0
+  pub word_is : w ≡ word n s 0 (i / 64)
 
 -- a store of some capacity, with no room for id i
 pub record Outside (s : List ℕ) (i : ℕ) : Type 0 where

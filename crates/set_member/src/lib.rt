@@ -1,10 +1,10 @@
 // Where an id stands in a lent store, and whether it is a member: what every call on an id begins with.
 ghost use Rattle.std.specs.Prelude.{◌≡◌, ◌/◌, ltb};
 ghost use Rattle.util.specs.Outcome.{Settled};
-ghost use Rattle.store.specs.Answer.{askedPaper};
+ghost use Rattle.store.specs.Answer.{asked_paper};
 ghost use Rattle.store.specs.Word.{word};
-ghost use Rattle.set_member.specs.Calls.{locateOf, containsOf};
-ghost use Rattle.set_member.specs.Place.{placePaper, Placed};
+ghost use Rattle.set_member.specs.Calls.{locate_of, contains_of};
+ghost use Rattle.set_member.specs.Place.{place_paper, Placed};
 
 use store::Asked;
 
@@ -34,7 +34,7 @@ fn word0(store: &[u64], n: usize, id: u32) -> u64
 
 // What every call on an id begins with: its tests, and the word that it reads.
 pub fn locate(store: &[u64], id: u32) -> Place
-    ensures { Settled placePaper (locateOf store.now id) result tt }
+    ensures { Settled place_paper (locate_of store.now id) result tt }
 {
     let n = store::capacity(store);
     if n == 0 {
@@ -49,7 +49,7 @@ pub fn locate(store: &[u64], id: u32) -> Place
 
 // Whether the id is a member: below the capacity, with its layer-0 bit set.
 pub fn contains(store: &[u64], id: u32) -> Asked
-    ensures { Settled askedPaper (containsOf store.now id) result tt }
+    ensures { Settled asked_paper (contains_of store.now id) result tt }
 {
     match locate(store, id) {
         Place::In(_, _, w) => Asked::Is(util::is_set(w, id as usize)),

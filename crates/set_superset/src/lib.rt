@@ -1,18 +1,18 @@
 // One set within another: the Rust's `BitSet::contains_set`, by a walk of the other store in batches.
 ghost use Rattle.std.specs.Prelude.{true, ◌≡◌};
 ghost use Rattle.util.specs.Outcome.{Settled};
-ghost use Rattle.store.specs.Answer.{askedPaper};
+ghost use Rattle.store.specs.Answer.{asked_paper};
 ghost use Rattle.store.specs.Layout.{is_store};
-ghost use Rattle.set_member.specs.Calls.{isMember};
+ghost use Rattle.set_member.specs.Calls.{is_member};
 ghost use Rattle.walk_batches.specs.Steps.{walked};
-ghost use Rattle.set_superset.specs.Calls.{allHeld, containsSetOf};
+ghost use Rattle.set_superset.specs.Calls.{all_held, contains_set_of};
 
 use store::Asked;
 
 // Whether a store has an id as a member.
 fn is_member(store: &[u64], id: u32) -> bool
     requires { is_store store.now ≡ true }
-    ensures { result ≡ isMember store.now id }
+    ensures { result ≡ is_member store.now id }
 {
     match set_member::contains(store, id) {
         Asked::Is(yes) => yes,
@@ -23,7 +23,7 @@ fn is_member(store: &[u64], id: u32) -> bool
 // Whether it has all ids of a batch.
 fn all_held(store: &[u64], ids: &[u32]) -> bool
     requires { is_store store.now ≡ true }
-    ensures { result ≡ allHeld store.now ids.now }
+    ensures { result ≡ all_held store.now ids.now }
 {
     let mut i = 0;
     while i < ids.len() {
@@ -38,7 +38,7 @@ fn all_held(store: &[u64], ids: &[u32]) -> bool
 // Whether a store has every id that a walk of the other one hands out, 64 ids at a time.
 fn all_walked(store: &[u64], other: &[u64]) -> bool
     requires { (is_store store.now ≡ true) × (is_store other.now ≡ true) }
-    ensures { result ≡ allHeld store.now (walked other.now) }
+    ensures { result ≡ all_held store.now (walked other.now) }
 {
     let mut ids = [0u32; 64];
     let mut c = walk_batches::started(other);
@@ -58,7 +58,7 @@ fn all_walked(store: &[u64], other: &[u64]) -> bool
 
 // Whether every id that a walk of the other store hands out is a member of this one.
 pub fn contains_set(store: &[u64], other: &[u64]) -> Asked
-    ensures { Settled askedPaper (containsSetOf store.now other.now) result tt }
+    ensures { Settled asked_paper (contains_set_of store.now other.now) result tt }
 {
     let n = store::capacity(store);
     if n == 0 {

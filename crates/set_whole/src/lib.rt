@@ -2,8 +2,8 @@
 ghost use Rattle.std.specs.Prelude.{◌≡◌, length, replicate, set};
 ghost use Rattle.util.specs.Outcome.{Settled};
 ghost use Rattle.util.specs.Word.{same};
-ghost use Rattle.store.specs.Answer.{askedPaper, didPaper};
-ghost use Rattle.set_whole.specs.Calls.{openRefusal, openOf, clearOf, isEmptyOf, equal_of};
+ghost use Rattle.store.specs.Answer.{asked_paper, did_paper};
+ghost use Rattle.set_whole.specs.Calls.{open_refusal, open_of, clear_of, is_empty_of, equal_of};
 
 use store::{Asked, Did};
 
@@ -28,7 +28,7 @@ fn empty(store: &mut [u64], n: usize)
 
 // What stands in the way of opening a slice of so many words for capacity n: 0 for nothing, or the refusal's number.
 pub fn can_open(n: usize, len: usize) -> u32
-    ensures { result ≡ openRefusal n len }
+    ensures { result ≡ open_refusal n len }
 {
     if store::is_capacity(n) {
         return if len == store::end(n, 0) { 0 } else { 2 };
@@ -38,7 +38,7 @@ pub fn can_open(n: usize, len: usize) -> u32
 
 // Makes the slice the empty store of capacity n.
 pub fn open(store: &mut [u64], n: u32) -> Did
-    ensures { Settled didPaper (openOf store.old n) result store.new }
+    ensures { Settled did_paper (open_of store.old n) result store.new }
 {
     let cap = n as usize;
     let no = can_open(cap, store.len());
@@ -51,7 +51,7 @@ pub fn open(store: &mut [u64], n: u32) -> Did
 
 // Removes every member.
 pub fn clear(store: &mut [u64]) -> Did
-    ensures { Settled didPaper (clearOf store.old) result store.new }
+    ensures { Settled did_paper (clear_of store.old) result store.new }
 {
     let n = store::capacity(store);
     if n == 0 {
@@ -63,7 +63,7 @@ pub fn clear(store: &mut [u64]) -> Did
 
 // Whether the top layer's word is 0.
 pub fn is_empty(store: &[u64]) -> Asked
-    ensures { Settled askedPaper (isEmptyOf store.now) result tt }
+    ensures { Settled asked_paper (is_empty_of store.now) result tt }
 {
     let n = store::capacity(store);
     if n == 0 {
@@ -89,7 +89,7 @@ fn alike(a: &[u64], b: &[u64]) -> bool
 
 // Whether two stores of one capacity hold the same words.
 pub fn equal(a: &[u64], b: &[u64]) -> Asked
-    ensures { Settled askedPaper (equal_of a.now b.now) result tt }
+    ensures { Settled asked_paper (equal_of a.now b.now) result tt }
 {
     let n = store::capacity(a);
     if n == 0 {

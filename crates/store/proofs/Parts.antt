@@ -3,12 +3,12 @@ use Rattle.std.proofs.Common.{◌≡◌, ℕ, ◌+◌, ◌-◌, ◌<◌, ◌≤�
 use borrow.Rule.Slice.PartMut.{mid_of, put_mid, set_mid_at}
 
 -- a word of the part
-pub part-word : (a e i : ℕ) (xs : List ℕ) → a + i < e → get_or (mid_of a (e - a) xs) i 0 ≡ get_or xs (a + i) 0
-part-word a e i xs h = get_or-take (e - a) (drop a xs) i 0 (omega arith) ∙ get_or-drop a xs i 0
+pub part_word : (a e i : ℕ) (xs : List ℕ) → a + i < e → get_or (mid_of a (e - a) xs) i 0 ≡ get_or xs (a + i) 0
+part_word a e i xs h = get_or-take (e - a) (drop a xs) i 0 (omega arith) ∙ get_or-drop a xs i 0
 
 -- a part in which one word was written, back in the whole
-pub part-set : (a e i w : ℕ) (xs ys : List ℕ) → a + i < e → e ≤ length xs → ys ≡ set (mid_of a (e - a) xs) i w → put_mid a (e - a) xs ys ≡ set xs (a + i) w
-part-set a e i w xs ys h g q =
+pub part_set : (a e i w : ℕ) (xs ys : List ℕ) → a + i < e → e ≤ length xs → ys ≡ set (mid_of a (e - a) xs) i w → put_mid a (e - a) xs ys ≡ set xs (a + i) w
+part_set a e i w xs ys h g q =
     ap (put_mid a (e - a) xs) q ∙ set_mid_at a (e - a) i xs w (simp (length-take, length-drop) (omega arith))
 
 -- a place of a part that goes on to the end

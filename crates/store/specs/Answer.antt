@@ -25,17 +25,17 @@ abbrev pub refuses : {X : Type 0} → ℕ → X → Outcome X
 refuses n x = record { numbers = n ∷ []; lent = x }
 
 -- an outcome's refusal, 0 for none, and its value
-abbrev pub refusalNumber : {X : Type 0} → Outcome X → ℕ
-refusalNumber o = slice_index o.numbers 0
+abbrev pub refusal_number : {X : Type 0} → Outcome X → ℕ
+refusal_number o = slice_index o.numbers 0
 
 abbrev pub value_of : {X : Type 0} → Outcome X → ℕ
 value_of o = slice_index o.numbers 1
 
 -- an answer that is a value or a refusal, read off its numbers
-abbrev readBack : {R : Type 0} → (ℕ → R) → (ℕ → R) → List ℕ → R
-readBack value refused [] = refused 0
-readBack value refused (n ∷ []) = refused n
-readBack value refused (n ∷ v ∷ l) = value v
+abbrev read_back : {R : Type 0} → (ℕ → R) → (ℕ → R) → List ℕ → R
+read_back value refused [] = refused 0
+read_back value refused (n ∷ []) = refused n
+read_back value refused (n ∷ v ∷ l) = value v
 
 -- ---- yes or no
 
@@ -43,13 +43,13 @@ abbrev asked : Asked → List ℕ
 asked (Is b) = 0 ∷ cond b 1 0 ∷ []
 asked (AskedRefused n) = n ∷ []
 
-abbrev askedBack : (r : Asked) → readBack (λ v. Is (v == 1)) AskedRefused (asked r) ≡ r
-askedBack (Is true) = refl
-askedBack (Is false) = refl
-askedBack (AskedRefused n) = refl
+abbrev asked_back : (r : Asked) → read_back (λ v. Is (v == 1)) AskedRefused (asked r) ≡ r
+asked_back (Is true) = refl
+asked_back (Is false) = refl
+asked_back (AskedRefused n) = refl
 
-abbrev pub askedPaper : Paper Asked
-askedPaper = record { numbers = asked; answer = readBack (λ v. Is (v == 1)) AskedRefused; same = askedBack }
+abbrev pub asked_paper : Paper Asked
+asked_paper = record { numbers = asked; answer = read_back (λ v. Is (v == 1)) AskedRefused; same = asked_back }
 
 -- ---- done
 
@@ -57,12 +57,12 @@ abbrev did : Did → List ℕ
 did Done = 0 ∷ 0 ∷ []
 did (DidRefused n) = n ∷ []
 
-abbrev didBack : (r : Did) → readBack (λ v. Done) DidRefused (did r) ≡ r
-didBack Done = refl
-didBack (DidRefused n) = refl
+abbrev did_back : (r : Did) → read_back (λ v. Done) DidRefused (did r) ≡ r
+did_back Done = refl
+did_back (DidRefused n) = refl
 
-abbrev pub didPaper : Paper Did
-didPaper = record { numbers = did; answer = readBack (λ v. Done) DidRefused; same = didBack }
+abbrev pub did_paper : Paper Did
+did_paper = record { numbers = did; answer = read_back (λ v. Done) DidRefused; same = did_back }
 
 -- ---- an id
 
@@ -70,12 +70,12 @@ abbrev found : Found → List ℕ
 found (At i) = 0 ∷ i ∷ []
 found (FoundRefused n) = n ∷ []
 
-abbrev foundBack : (r : Found) → readBack At FoundRefused (found r) ≡ r
-foundBack (At i) = refl
-foundBack (FoundRefused n) = refl
+abbrev found_back : (r : Found) → read_back At FoundRefused (found r) ≡ r
+found_back (At i) = refl
+found_back (FoundRefused n) = refl
 
-abbrev pub foundPaper : Paper Found
-foundPaper = record { numbers = found; answer = readBack At FoundRefused; same = foundBack }
+abbrev pub found_paper : Paper Found
+found_paper = record { numbers = found; answer = read_back At FoundRefused; same = found_back }
 
 -- ---- a word
 
@@ -83,9 +83,9 @@ abbrev read : Read → List ℕ
 read (Word w) = 0 ∷ w ∷ []
 read (ReadRefused n) = n ∷ []
 
-abbrev readRead : (r : Read) → readBack Word ReadRefused (read r) ≡ r
-readRead (Word w) = refl
-readRead (ReadRefused n) = refl
+abbrev read_read : (r : Read) → read_back Word ReadRefused (read r) ≡ r
+read_read (Word w) = refl
+read_read (ReadRefused n) = refl
 
-abbrev pub readPaper : Paper Read
-readPaper = record { numbers = read; answer = readBack Word ReadRefused; same = readRead }
+abbrev pub read_paper : Paper Read
+read_paper = record { numbers = read; answer = read_back Word ReadRefused; same = read_read }

@@ -1,15 +1,15 @@
 -- Words, bits, members, soundness.
 use Rattle.std.specs.Prelude.{◌≡◌, ℕ, zero, suc, ◌+◌, ◌/◌, ◌%◌, ◌^◌, ◌<◌, ◌≤◌, min, ◌≢◌, ◌↔◌, List, length, take, drop, set, slice_index, slice_set}
 use Rattle.util.specs.Word.{bit, places}
-use Rattle.store.specs.Layout.{top, room, layerLen, layerStart, cap, StoreOf}
+use Rattle.store.specs.Layout.{top, room, layer_len, layer_start, cap, StoreOf}
 
 -- layer k, a part of the store
-abbrev pub layerAt : ℕ → List ℕ → ℕ → List ℕ
-layerAt N s k = take (layerLen N k) (drop (layerStart N k) s)
+abbrev pub layer_at : ℕ → List ℕ → ℕ → List ℕ
+layer_at N s k = take (layer_len N k) (drop (layer_start N k) s)
 
 -- word i of layer k: "a word past the layer's end is 0"
 unfoldable pub word : ℕ → List ℕ → ℕ → ℕ → ℕ
-word N s k i = slice_index (layerAt N s k) i
+word N s k i = slice_index (layer_at N s k) i
 
 -- the bit at place p of layer k
 unfoldable pub on : ℕ → List ℕ → ℕ → ℕ → ℕ
@@ -23,7 +23,7 @@ anc i (suc k) = anc i k / 64
 
 -- the store with w for word i of layer k
 unfoldable pub put : ℕ → List ℕ → ℕ → ℕ → ℕ → List ℕ
-put N s k i w = slice_set s (layerStart N k + i) w
+put N s k i w = slice_set s (layer_start N k + i) w
 
 -- "An id is a member if it is below N and its layer-0 bit is set."
 pub record Member (s : List ℕ) (i : ℕ) : Type 0 where
@@ -34,12 +34,12 @@ pub record Member (s : List ℕ) (i : ℕ) : Type 0 where
 unfoldable pub members : List ℕ → List ℕ
 members s = places (on (cap s) s 0) 0 (cap s)
 
-abbrev pub memberCount : List ℕ → ℕ
-memberCount s = length (members s)
+abbrev pub member_count : List ℕ → ℕ
+member_count s = length (members s)
 
 -- the members below id a, counted
-abbrev pub countBelow : ℕ → List ℕ → ℕ → ℕ
-countBelow N s a = length (places (on N s 0) 0 (min a N))
+abbrev pub count_below : ℕ → List ℕ → ℕ → ℕ
+count_below N s a = length (places (on N s 0) 0 (min a N))
 
 -- "A store is sound if no bit is set at a place where no id or word exists, and every summary bit is set exactly if the word it stands
 -- for is not zero." The crate says it of each layer: "Layer0 each bit represents one Index of the set. Layer1 each bit represents one

@@ -1,7 +1,7 @@
 // What every call on a store begins with and answers: the store test, where the layers stand, reading and writing a word, and the answers
 // that calls share. This crate alone knows the layout.
 ghost use Rattle.std.specs.Prelude.{◌≡◌, ◌≤◌, slice_index, slice_set};
-ghost use Rattle.store.specs.Layout.{top, maxCap, isCap, storeLen, wordsFor, cap, end_of, startFrom, idWordOf, capacityOf, topWord};
+ghost use Rattle.store.specs.Layout.{top, max_cap, is_cap, store_len, words_for, cap, end_of, start_from, id_word_of, capacity_of, top_word};
 
 // Yes or no, or the refusal's number.
 #[derive(Drop)]
@@ -44,7 +44,7 @@ pub const LAYERS: usize = TOP + 1;
 
 // Whether a store may have so many ids.
 pub fn is_capacity(n: usize) -> bool
-    ensures { result ≡ isCap n }
+    ensures { result ≡ is_cap n }
 {
     if n == 0 {
         return false;
@@ -61,15 +61,15 @@ pub fn top(n: usize) -> usize
 
 // The words that n bits need, at least one. No bits are taken as 2 ^ 64, so that there is no branch.
 pub fn words_for(n: usize) -> usize
-    ensures { result ≡ wordsFor n }
+    ensures { result ≡ words_for n }
 {
     std::num::wrapping_sub_u64(n as u64, 1) as usize / 64 + 1
 }
 
 // How many words a store of capacity n has. The layers' lengths are three divisions that do not wait for each other.
 fn length(n: usize) -> usize
-    requires { (1 ≤ n) × (n ≤ maxCap) }
-    ensures { result ≡ storeLen n }
+    requires { (1 ≤ n) × (n ≤ max_cap) }
+    ensures { result ≡ store_len n }
 {
     let m = n - 1;
     HEADER + 4 + m / 262144 + m / 4096 + m / 64
@@ -94,7 +94,7 @@ pub fn end(n: usize, k: usize) -> usize
 
 // Where layer k starts in a store of capacity n, which has so many words: layer 0 is the store's end, so that it needs no other layer.
 pub fn start(len: usize, n: usize, k: usize) -> usize
-    ensures { result ≡ startFrom len n k }
+    ensures { result ≡ start_from len n k }
 {
     match k {
         0 => std::num::wrapping_sub_u64(len as u64, words_for(n) as u64) as usize,
@@ -106,7 +106,7 @@ pub fn start(len: usize, n: usize, k: usize) -> usize
 
 // Where the layer-0 word of an id stands in a store whose layer 0 starts there.
 pub fn id_word(start: usize, id: u32) -> usize
-    ensures { result ≡ idWordOf start id }
+    ensures { result ≡ id_word_of start id }
 {
     std::num::wrapping_add_u64(start as u64, util::offset(id, util::SHIFT1) as u64) as usize
 }
@@ -127,7 +127,7 @@ pub fn name(store: &mut [u64], n: usize)
 
 // The store test: the capacity that word 0 names, if the slice has its length; else 0, which is none.
 pub fn capacity(store: &[u64]) -> usize
-    ensures { result ≡ capacityOf store.now }
+    ensures { result ≡ capacity_of store.now }
 {
     let n = named(store);
     if is_capacity(n) {
@@ -138,7 +138,7 @@ pub fn capacity(store: &[u64]) -> usize
 
 // The word of the top layer.
 pub fn top_word(store: &[u64]) -> u64
-    ensures { result ≡ topWord store.now }
+    ensures { result ≡ top_word store.now }
 {
     get(store, HEADER)
 }

@@ -7,17 +7,17 @@ use Rattle.store.specs.Build.{build, layer0, room0}
 use Rattle.store.specs.Layout.{cap, is_store}
 
 -- every summary layer as layer 0 asks it; layer 0 and the capacity as they were
-unfoldable pub rebuildOf : List ℕ → Outcome (List ℕ)
-rebuildOf s = cond (is_store s) (does (build (cap s) (layer0 (cap s) s))) (refuses 2 s)
+unfoldable pub rebuild_of : List ℕ → Outcome (List ℕ)
+rebuild_of s = cond (is_store s) (does (build (cap s) (layer0 (cap s) s))) (refuses 2 s)
 
 -- whether no bit of layer 0 stands at or past N: only its last word has such places
-unfoldable pub keptOf : ℕ → List ℕ → Bool
-keptOf N ws = let q = length ws - 1 in ltb (get_or ws q 0) (2 ^ room0 N q)
+unfoldable pub kept_of : ℕ → List ℕ → Bool
+kept_of N ws = let q = length ws - 1 in ltb (get_or ws q 0) (2 ^ room0 N q)
 
 -- "A store is sound if no bit is set at a place where no id or word exists, and every summary bit is set exactly if the word it stands
 -- for is not zero. The soundness check says yes exactly then.": it is the store that its layer 0 makes, with no bit at or past N.
-unfoldable pub soundOf : ℕ → List ℕ → Bool
-soundOf N s = same s (build N (layer0 N s)) && keptOf N (layer0 N s)
+unfoldable pub sound_of : ℕ → List ℕ → Bool
+sound_of N s = same s (build N (layer0 N s)) && kept_of N (layer0 N s)
 
-unfoldable pub isSoundOf : List ℕ → Outcome (Unit {0})
-isSoundOf s = cond (is_store s) (says (soundOf (cap s) s) tt) (refuses 2 tt)
+unfoldable pub is_sound_of : List ℕ → Outcome (Unit {0})
+is_sound_of s = cond (is_store s) (says (sound_of (cap s) s) tt) (refuses 2 tt)

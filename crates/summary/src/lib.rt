@@ -2,10 +2,10 @@
 ghost use Rattle.std.specs.Prelude.{◌++◌, ◌≡◌, drop, take};
 ghost use Rattle.util.specs.Outcome.{Settled};
 ghost use Rattle.util.specs.Word.{same};
-ghost use Rattle.store.specs.Answer.{didPaper, askedPaper};
+ghost use Rattle.store.specs.Answer.{did_paper, asked_paper};
 ghost use Rattle.store.specs.Build.{summary, build, layer0};
 ghost use Rattle.store.specs.Layout.{StoreOf};
-ghost use Rattle.summary.specs.Calls.{rebuildOf, soundOf, isSoundOf};
+ghost use Rattle.summary.specs.Calls.{rebuild_of, sound_of, is_sound_of};
 ghost use Rattle.summary.specs.Steps.{Two, Over, Paired};
 
 use store::{Asked, Did};
@@ -63,7 +63,7 @@ fn raise(store: &mut [u64], n: usize)
 
 // Replaces every summary layer by what layer 0 asks.
 pub fn rebuild(store: &mut [u64]) -> Did
-    ensures { Settled didPaper (rebuildOf store.old) result store.new }
+    ensures { Settled did_paper (rebuild_of store.old) result store.new }
 {
     let n = store::capacity(store);
     if n == 0 {
@@ -91,7 +91,7 @@ fn is_summary(part: &[u64], up: usize) -> bool
 // Whether every summary layer is as layer 0 asks, and the last word of layer 0 has no bit at or past N.
 fn sound(store: &[u64], n: usize) -> bool
     requires { StoreOf n store.now }
-    ensures { result ≡ soundOf n store.now }
+    ensures { result ≡ sound_of n store.now }
 {
     let t = store::top(n);
     let mut k = 0usize;
@@ -110,7 +110,7 @@ fn sound(store: &[u64], n: usize) -> bool
 
 // Whether the store is sound; the check stops at the first fault.
 pub fn is_sound(store: &[u64]) -> Asked
-    ensures { Settled askedPaper (isSoundOf store.now) result tt }
+    ensures { Settled asked_paper (is_sound_of store.now) result tt }
 {
     let n = store::capacity(store);
     if n == 0 {

@@ -11,15 +11,15 @@ use lib.Dec.{eqb, ltb}
 use lib.ListN.{length, drop, get_or, set, length-set, length-drop, drop_of_length-le}
 use lib.Seq.{drop-cons, set_out, sets}
 use Rattle.text_out.specs.Out.{Held, holding}
-use Rattle.text_in.specs.Line.{keepOf, up_to, Taken, takenText, ends_at, gatherOf}
+use Rattle.text_in.specs.Line.{keep_of, up_to, Taken, taken_text, ends_at, gather_of}
 
 module _ (line : List ℕ) (len b : ℕ) where
-  pub keep-room : len < length line → keepOf line len b ≡ holding (set line len b) (len + 1)
-  unfolding keepOf
+  pub keep-room : len < length line → keep_of line len b ≡ holding (set line len b) (len + 1)
+  unfolding keep_of
   keep-room h = simp (lt-ltb _ _ h)
 
-  pub keep-full : length line ≤ len → keepOf line len b ≡ holding line len
-  unfolding keepOf
+  pub keep-full : length line ≤ len → keep_of line len b ≡ holding line len
+  unfolding keep_of
   keep-full h = simp (le-ltb _ _ h)
 
 -- bytes that are put past the end are dropped
@@ -39,10 +39,10 @@ module _ (line : List ℕ) (len b : ℕ) (bs : List ℕ) where
       (sets k.buf k.at bs ≡ sets line len (b ∷ bs))
       × (longer k.buf k.at (length bs) ≡ longer line len (suc (length bs)))
 
-  kept : Kept (keepOf line len b)
+  kept : Kept (keep_of line len b)
   kept = go (dec_lt len (length line))
     where
-      go : Dec (len < length line) → Kept (keepOf line len b)
+      go : Dec (len < length line) → Kept (keep_of line len b)
       go (yes h) = rw keep-room (rw add-one, omega (arith, length-set line len b))
       go (no h) =
           let l : length line ≤ len = omega arith in
@@ -50,18 +50,18 @@ module _ (line : List ℕ) (len b : ℕ) (bs : List ℕ) where
 
 module _ (line : List ℕ) (len : ℕ) (piece : List ℕ) (i : ℕ) where
   -- past the last byte
-  gather-end : length piece ≤ i → gatherOf line len piece i ≡ takenText line (record { len = len; next = i; ended = false })
-  unfolding gatherOf ends_at up_to
-  gather-end h =
+  gather_end : length piece ≤ i → gather_of line len piece i ≡ taken_text line (record { len = len; next = i; ended = false })
+  unfolding gather_of ends_at up_to
+  gather_end h =
       let e : longer line len 0 ≡ len = omega arith in
       let z : i + 0 ≡ i = omega arith in
       simp (drop_of_length-le piece h, e, z, le-ltb _ _ h)
 
   module _ (h : i < length piece) where
     -- at a newline
-    gather-line : get_or piece i 0 ≡ 10 → gatherOf line len piece i ≡ takenText line (record { len = len; next = i + 1; ended = true })
-    unfolding gatherOf ends_at up_to
-    gather-line nl =
+    gather_line_lem : get_or piece i 0 ≡ 10 → gather_of line len piece i ≡ taken_text line (record { len = len; next = i + 1; ended = true })
+    unfolding gather_of ends_at up_to
+    gather_line_lem nl =
         let e : longer line len 0 ≡ len = omega arith in
         let z : i + 0 ≡ i = omega arith in
         simp (drop-cons piece i 0 h, eq-eqb _ _ nl, e, z, lt-ltb _ _ h)
@@ -71,10 +71,10 @@ module _ (line : List ℕ) (len : ℕ) (piece : List ℕ) (i : ℕ) where
     unfolding up_to
     run_more other = simp (drop-cons piece i 0 h, ne_eqb _ _ other, add-one)
 
-    gather-turn : (get_or piece i 0 ≡ 10 → ⊥) → (k : Held) → k ≡ keepOf line len (get_or piece i 0)
-        → gatherOf k.buf k.at piece (i + 1) ≡ gatherOf line len piece i
-    unfolding gatherOf
-    gather-turn other k e =
+    gather_turn : (get_or piece i 0 ≡ 10 → ⊥) → (k : Held) → k ≡ keep_of line len (get_or piece i 0)
+        → gather_of k.buf k.at piece (i + 1) ≡ gather_of line len piece i
+    unfolding gather_of
+    gather_turn other k e =
         let run = up_to (drop (i + 1) piece) in
         let more : i + 1 + length run ≡ i + suc (length run) = omega arith in
         let same = kept line len (get_or piece i 0) run in
@@ -83,22 +83,22 @@ module _ (line : List ℕ) (len : ℕ) (piece : List ℕ) (i : ℕ) where
 -- The loop: what is left of the piece, joined behind what was kept of it, is the whole.
 pub record Gathering (line₀ : List ℕ) (len : ℕ) (piece : List ℕ) (from : ℕ) (line : List ℕ) (n i : ℕ) : Type 0 where
   pub long : length line ≡ length line₀
-  pub same : gatherOf line n piece i ≡ gatherOf line₀ len piece from
+  pub same : gather_of line n piece i ≡ gather_of line₀ len piece from
 
 module _ {line₀ : List ℕ} {len : ℕ} {piece : List ℕ} {from : ℕ} {line : List ℕ} {n i : ℕ}
     (g : Gathering line₀ len piece from line n i) where
-  pub gathers-end : length piece ≤ i → takenText line (record { len = n; next = i; ended = false }) ≡ gatherOf line₀ len piece from
-  gathers-end h = sym (gather-end line n piece i h) ∙ g.same
+  pub gathers_end : length piece ≤ i → taken_text line (record { len = n; next = i; ended = false }) ≡ gather_of line₀ len piece from
+  gathers_end h = sym (gather_end line n piece i h) ∙ g.same
 
   module _ (h : i < length piece) where
-    pub gathers-line : get_or piece i 0 ≡ 10
-        → takenText line (record { len = n; next = i + 1; ended = true }) ≡ gatherOf line₀ len piece from
-    gathers-line nl = sym (gather-line line n piece i h nl) ∙ g.same
+    pub gathers_line : get_or piece i 0 ≡ 10
+        → taken_text line (record { len = n; next = i + 1; ended = true }) ≡ gather_of line₀ len piece from
+    gathers_line nl = sym (gather_line_lem line n piece i h nl) ∙ g.same
 
-    pub gathers-turn : (get_or piece i 0 ≡ 10 → ⊥) → (line' : List ℕ) (n' : ℕ) → length line' ≡ length line
-        → holding line' n' ≡ keepOf line n (get_or piece i 0) → Gathering line₀ len piece from line' n' (i + 1)
-    gathers-turn other line' n' l e =
-        record { long = l ∙ g.long; same = gather-turn line n piece i h other (holding line' n') e ∙ g.same }
+    pub gathers_turn : (get_or piece i 0 ≡ 10 → ⊥) → (line' : List ℕ) (n' : ℕ) → length line' ≡ length line
+        → holding line' n' ≡ keep_of line n (get_or piece i 0) → Gathering line₀ len piece from line' n' (i + 1)
+    gathers_turn other line' n' l e =
+        record { long = l ∙ g.long; same = gather_turn line n piece i h other (holding line' n') e ∙ g.same }
 
 -- What a caller knows of the place where the piece goes on: it is past `from`, if a byte was there, and inside the piece.
 run_short : (bs : List ℕ) → length (up_to bs) ≤ length bs
@@ -110,10 +110,10 @@ run_short (b ∷ bs) = go (run_short bs) (ℕ_discrete b 10)
     go rest (yes e) = rw (eq-eqb b 10 e) (omega arith)
     go rest (no e) = rw (ne_eqb b 10 e) (omega arith)
 
-gather-goes-on : (line : List ℕ) (len : ℕ) (piece : List ℕ) (from : ℕ) → from < length piece
-    → (from < (gatherOf line len piece from).answer.next) × ((gatherOf line len piece from).answer.next ≤ length piece)
-unfolding gatherOf ends_at
-gather-goes-on line len piece from h = go (dec_lt end (length piece))
+gather_goes_on : (line : List ℕ) (len : ℕ) (piece : List ℕ) (from : ℕ) → from < length piece
+    → (from < (gather_of line len piece from).answer.next) × ((gather_of line len piece from).answer.next ≤ length piece)
+unfolding gather_of ends_at
+gather_goes_on line len piece from h = go (dec_lt end (length piece))
   where
     end : ℕ
     end = from + length (up_to (drop from piece))
@@ -126,7 +126,7 @@ gather-goes-on line len piece from h = go (dec_lt end (length piece))
     go (yes l) = rw (lt-ltb end (length piece) l) (omega arith, omega arith)
     go (no l) = let u : length piece ≤ end = omega arith in rw (le-ltb end (length piece) u) (omega (arith, inside), inside)
 
-pub line-goes-on : (line : List ℕ) (len : ℕ) (piece : List ℕ) (from : ℕ) {t : Taken} → t ≡ gatherOf line len piece from
+pub line_goes_on : (line : List ℕ) (len : ℕ) (piece : List ℕ) (from : ℕ) {t : Taken} → t ≡ gather_of line len piece from
     → from < length piece
     → (from < t.answer.next) × (t.answer.next ≤ length piece)
-line-goes-on line len piece from e h = rw e (gather-goes-on line len piece from h)
+line_goes_on line len piece from e h = rw e (gather_goes_on line len piece from h)

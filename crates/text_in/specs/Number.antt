@@ -4,22 +4,22 @@ use Rattle.text_in.specs.declared.Decimal.{Decimal}
 use Rattle.text_in.specs.declared.Decimal.TheVariants.{Is, Nothing}
 
 -- what a byte counts as a digit, and 10 if it is none
-unfoldable pub digitOf : ℕ → ℕ
-digitOf b = cond (ltb b 48) 10 (cond (ltb 57 b) 10 (b - 48))
+unfoldable pub digit_of : ℕ → ℕ
+digit_of b = cond (ltb b 48) 10 (cond (ltb 57 b) 10 (b - 48))
 
 -- the digits at the start
 unfoldable pub digits : List ℕ → List ℕ
 digits [] = []
-digits (b ∷ bs) = cond (ltb (digitOf b) 10) (digitOf b ∷ digits bs) []
+digits (b ∷ bs) = cond (ltb (digit_of b) 10) (digit_of b ∷ digits bs) []
 
 -- the number v with digits behind it
-unfoldable pub valueAfter : ℕ → List ℕ → ℕ
-valueAfter v [] = v
-valueAfter v (d ∷ ds) = valueAfter (v * 10 + d) ds
+unfoldable pub value_after : ℕ → List ℕ → ℕ
+value_after v [] = v
+value_after v (d ∷ ds) = value_after (v * 10 + d) ds
 
 -- The number that the digits from `from` on spell, with the place after them; nothing where there is no digit, or more than `most`.
 unfoldable pub number_of : List ℕ → ℕ → ℕ → Decimal
 number_of line from most =
     let ds = digits (drop from line) in
-    let value = valueAfter 0 ds in
+    let value = value_after 0 ds in
     cond (eqb (length ds) 0) Nothing (cond (ltb most value) Nothing (Is value (from + length ds)))

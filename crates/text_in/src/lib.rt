@@ -1,8 +1,8 @@
 // What the programs read: lines joined from pieces of input, and decimal numbers in them.
 ghost use Rattle.std.specs.Prelude.{◌≡◌};
 ghost use Rattle.text_out.specs.Out.{holding};
-ghost use Rattle.text_in.specs.Line.{keepOf, takenText, gatherOf};
-ghost use Rattle.text_in.specs.Number.{digitOf, number_of};
+ghost use Rattle.text_in.specs.Line.{keep_of, taken_text, gather_of};
+ghost use Rattle.text_in.specs.Number.{digit_of, number_of};
 
 // How long the line is now, where the piece goes on, and whether a newline ended the line.
 #[derive(Drop)]
@@ -14,7 +14,7 @@ pub struct Gathered {
 
 // Puts a byte behind the `len` bytes of a line, if it fits, and answers how long the line is now.
 fn keep(line: &mut [u8], len: usize, b: u8) -> usize
-    ensures { holding line.new result ≡ keepOf line.old len b }
+    ensures { holding line.new result ≡ keep_of line.old len b }
 {
     if len < line.len() {
         line[len] = b;
@@ -26,7 +26,7 @@ fn keep(line: &mut [u8], len: usize, b: u8) -> usize
 // Takes the bytes of `piece` from `from` on, up to and without a newline, into `line` behind its first `len` bytes. Those that do not
 // fit are dropped, so a line that fills the slice may have been longer.
 pub fn gather_line(line: &mut [u8], len: usize, piece: &[u8], from: usize) -> Gathered
-    ensures { takenText line.new result ≡ gatherOf line.old len piece.now from }
+    ensures { taken_text line.new result ≡ gather_of line.old len piece.now from }
 {
     let mut n = len;
     let mut i = from;
@@ -58,7 +58,7 @@ pub enum Decimal {
 
 // What a byte counts as a digit, and 10 if it is none.
 fn digit(b: u8) -> u64
-    ensures { result ≡ digitOf b }
+    ensures { result ≡ digit_of b }
 {
     if b < b'0' {
         return 10;

@@ -11,8 +11,8 @@ use Rattle.io.specs.Digits.{last_digits as lastDigits, hex_digit_ascii, IsDigitC
 use Rattle.text_out.specs.Out.{spelled}
 
 module _ (n : ℕ) where
-  one-digit : n < 10 → lastDigits 10 1 n ≡ (48 + n) ∷ []
-  one-digit h = simp (mod-eq_of_lt h, lt-ltb _ _ h)
+  one_digit : n < 10 → lastDigits 10 1 n ≡ (48 + n) ∷ []
+  one_digit h = simp (mod-eq_of_lt h, lt-ltb _ _ h)
 
   pub spelled-one : (d : ℕ) → n < 10 → spelled (suc d) n ≡ (48 + n) ∷ []
   unfolding spelled
@@ -22,8 +22,8 @@ module _ (n : ℕ) where
   unfolding spelled
   spelled-more d h = simp (le-ltb _ _ h)
 
-  glyph-is : hex_digit_ascii (n % 10) ≡ 48 + n % 10
-  glyph-is = let h : n % 10 < 10 = omega arith in simp (lt-ltb _ _ h)
+  glyph_is : hex_digit_ascii (n % 10) ≡ 48 + n % 10
+  glyph_is = let h : n % 10 < 10 = omega arith in simp (lt-ltb _ _ h)
 
 -- a power's next one, and that a power above the first is at least ten
 pub next_power : (k : ℕ) → 10 ^ suc k ≡ 10 ^ k * 10
@@ -37,7 +37,7 @@ drop-one k = ap (λ (x : ℕ). 10 ^ x) (omega arith)
 
 -- below ten it is one digit, and from ten on one digit more than the tenth
 small : (d n k : ℕ) → n < 10 → IsDigitCount 10 1 n (suc k) → lastDigits 10 (suc k) n ≡ spelled (suc d) n
-small d n zero h few = one-digit n h ∙ sym (spelled-one n d h)
+small d n zero h few = one_digit n h ∙ sym (spelled-one n d h)
 small d n (suc k) h few = absurd (omega (arith, few.2 (omega arith), drop-one (suc k), ten (suc k) (omega arith)))
 
 fewer : (n k : ℕ) → 10 ≤ n → IsDigitCount 10 1 n (suc k) → IsDigitCount 10 1 (n / 10) k
@@ -60,5 +60,5 @@ spells (suc d) n (suc k) fits few = go (spells d (n / 10) k (omega (arith, next_
     go rest (no l) =
         let h : 10 ≤ n = omega arith in
         ap (λ (x : List ℕ). x ++ (hex_digit_ascii (n % 10) ∷ [])) (rest (fewer n k h few))
-        ∙ ap (λ (x : ℕ). spelled (suc d) (n / 10) ++ (x ∷ [])) (glyph-is n)
+        ∙ ap (λ (x : ℕ). spelled (suc d) (n / 10) ++ (x ∷ [])) (glyph_is n)
         ∙ sym (spelled-more n (suc d) h)

@@ -14,9 +14,9 @@ unfoldable pub put_of : List ℕ → ℕ → ℕ → Held
 put_of buf at b = cond (ltb at (length buf)) (holding (set buf at b) (at + 1)) (holding (set buf 0 b) (min 1 (length buf)))
 
 -- bytes go in one after the other
-unfoldable pub putAllOf : List ℕ → ℕ → List ℕ → Held
-putAllOf buf at [] = holding buf at
-putAllOf buf at (b ∷ bs) = let h = put_of buf at b in putAllOf h.buf h.at bs
+unfoldable pub put_all_of : List ℕ → ℕ → List ℕ → Held
+put_all_of buf at [] = holding buf at
+put_all_of buf at (b ∷ bs) = let h = put_of buf at b in put_all_of h.buf h.at bs
 
 -- a number below 10 ^ k as decimal digits, none of them a zero in front
 unfoldable pub spelled : ℕ → ℕ → List ℕ
@@ -24,5 +24,5 @@ spelled zero n = []
 spelled (suc k) n = cond (ltb n 10) ((48 + n) ∷ []) (spelled k (n / 10) ++ ((48 + n % 10) ∷ []))
 
 -- a number of 64 bits has at most 20 digits
-abbrev pub decimalOf : ℕ → List ℕ
-decimalOf n = spelled 20 n
+abbrev pub decimal_of : ℕ → List ℕ
+decimal_of n = spelled 20 n

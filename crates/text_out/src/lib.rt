@@ -1,6 +1,6 @@
 // What the programs write: output joined in a lent buffer, and decimal numbers.
 ghost use Rattle.std.specs.Prelude.{◌++◌, ◌∷◌, [], ◌≡◌};
-ghost use Rattle.text_out.specs.Out.{holding, put_of, putAllOf, decimalOf};
+ghost use Rattle.text_out.specs.Out.{holding, put_of, put_all_of, decimal_of};
 
 use libc::STDOUT_FILENO;
 
@@ -30,7 +30,7 @@ pub fn put_byte(buf: &mut [u8], at: usize, b: u8) -> usize
 }
 
 pub fn put_all(buf: &mut [u8], at: usize, bytes: &[u8]) -> usize
-    ensures { holding buf.new result ≡ putAllOf buf.old at bytes.now }
+    ensures { holding buf.new result ≡ put_all_of buf.old at bytes.now }
 {
     let mut filled = at;
     let mut i = 0;
@@ -43,7 +43,7 @@ pub fn put_all(buf: &mut [u8], at: usize, bytes: &[u8]) -> usize
 
 // Puts the decimal digits of a number, with no zero in front.
 pub fn put_number(buf: &mut [u8], at: usize, n: u64) -> usize
-    ensures { holding buf.new result ≡ putAllOf buf.old at (decimalOf n) }
+    ensures { holding buf.new result ≡ put_all_of buf.old at (decimal_of n) }
 {
     let mut digits = [0u8; 20];
     let k = io::decimal(n, &mut digits);
@@ -52,7 +52,7 @@ pub fn put_number(buf: &mut [u8], at: usize, n: u64) -> usize
 
 // A number and what stands behind it.
 fn put_number_and(buf: &mut [u8], at: usize, n: u64, b: u8) -> usize
-    ensures { holding buf.new result ≡ putAllOf buf.old at (decimalOf n ++ (b ∷ [])) }
+    ensures { holding buf.new result ≡ put_all_of buf.old at (decimal_of n ++ (b ∷ [])) }
 {
     let a = put_number(buf, at, n);
     put_byte(buf, a, b)
@@ -60,7 +60,7 @@ fn put_number_and(buf: &mut [u8], at: usize, n: u64, b: u8) -> usize
 
 // `?` and the number of a line that says nothing.
 pub fn put_unknown(buf: &mut [u8], at: usize, line: u64) -> usize
-    ensures { holding buf.new result ≡ putAllOf buf.old at (63 ∷ 32 ∷ (decimalOf line ++ (10 ∷ []))) }
+    ensures { holding buf.new result ≡ put_all_of buf.old at (63 ∷ 32 ∷ (decimal_of line ++ (10 ∷ []))) }
 {
     let a = put_byte(buf, at, b'?');
     let b = put_byte(buf, a, b' ');

@@ -17,32 +17,32 @@ use Rattle.util.specs.Word.{bit, flip, change}
 pub shl_one : (b : ℕ) → b < 64 → 1 * 2 ^ b % 2 ^ 64 ≡ 2 ^ b
 shl_one b h = shl_exact {a = 1} 1 b 64 (omega arith) (omega arith) ∙ one-mul (2 ^ b)
 
-pub bit-lt : (w b : ℕ) → bit w b < 2
+pub bit_lt : (w b : ℕ) → bit w b < 2
 unfolding bit
-bit-lt w b = mod-lt (w / 2 ^ b) (zero-lt-suc 1)
+bit_lt w b = mod-lt (w / 2 ^ b) (zero-lt-suc 1)
 
 -- a bit that is not 0 is 1, and one that is not 1 is 0
 pub bit-on : (w b : ℕ) → bit w b ≢ 0 → bit w b ≡ 1
-bit-on w b n = omega (arith, bit-lt w b)
+bit-on w b n = omega (arith, bit_lt w b)
 
-pub bit-off : (w b : ℕ) → bit w b ≢ 1 → bit w b ≡ 0
-bit-off w b n = omega (arith, bit-lt w b)
+pub bit_off : (w b : ℕ) → bit w b ≢ 1 → bit w b ≡ 0
+bit_off w b n = omega (arith, bit_lt w b)
 
 -- bit 0 is the last digit, and bit b + 1 is bit b of the half
-pub bit-zero : (w : ℕ) → bit w 0 ≡ w % 2
+pub bit_zero : (w : ℕ) → bit w 0 ≡ w % 2
 unfolding bit
-bit-zero w = ap (λ (x : ℕ). x % 2) (div-one w)
+bit_zero w = ap (λ (x : ℕ). x % 2) (div-one w)
 
-pub bit-suc : (w b : ℕ) → bit w (suc b) ≡ bit (w / 2) b
+pub bit_suc : (w b : ℕ) → bit w (suc b) ≡ bit (w / 2) b
 unfolding bit
-bit-suc w b =
+bit_suc w b =
     ap (λ (x : ℕ). x % 2)
     (ap (λ (x : ℕ). w / x) (pow-suc 2 b ∙ mul_comm (2 ^ b) 2) ∙ sym (div-div-eq-div-mul w 2 (2 ^ b)))
 
 -- no bit of 0, and none at or past the width
-pub bit-of-zero : (b : ℕ) → bit 0 b ≡ 0
+pub bit_of_zero : (b : ℕ) → bit 0 b ≡ 0
 unfolding bit
-bit-of-zero b = ap (λ (x : ℕ). x % 2) (zero-div (2 ^ b))
+bit_of_zero b = ap (λ (x : ℕ). x % 2) (zero-div (2 ^ b))
 
 pub bit_high : (n w b : ℕ) → w < 2 ^ n → n ≤ b → bit w b ≡ 0
 unfolding bit
@@ -58,78 +58,78 @@ module _ (op f : ℕ → ℕ → ℕ)
   bitwise x y b =
       ap (λ (z : ℕ). z % 2) (shift x y b ∙ step (x / 2 ^ b) (y / 2 ^ b))
       ∙ mul-add-mod_self_right (op (x / 2 ^ b / 2) (y / 2 ^ b / 2)) 2 (f (bit x b) (bit y b))
-      ∙ mod-eq_of_lt (digit (bit x b) (bit y b) (bit-lt x b) (bit-lt y b))
+      ∙ mod-eq_of_lt (digit (bit x b) (bit y b) (bit_lt x b) (bit_lt y b))
 
-differ-lt : (x y : ℕ) → x < 2 → y < 2 → differ x y < 2
-differ-lt zero y h g = g
-differ-lt (suc x) zero h g = h
-differ-lt (suc x) (suc y) h g = differ-lt x y (omega arith) (omega arith)
+differ_lt : (x y : ℕ) → x < 2 → y < 2 → differ x y < 2
+differ_lt zero y h g = g
+differ_lt (suc x) zero h g = h
+differ_lt (suc x) (suc y) h g = differ_lt x y (omega arith) (omega arith)
 
-pub bit-or : (x y b : ℕ) → bit (bit_or x y) b ≡ max (bit x b) (bit y b)
-bit-or = bitwise bit_or max or_step or_shr (λ x y h g. omega arith)
+pub bit-bit_or : (x y b : ℕ) → bit (bit_or x y) b ≡ max (bit x b) (bit y b)
+bit-bit_or = bitwise bit_or max or_step or_shr (λ x y h g. omega arith)
 
-pub bit-and : (x y b : ℕ) → bit (bit_and x y) b ≡ min (bit x b) (bit y b)
-bit-and = bitwise bit_and min and_step and_shr (λ x y h g. omega arith)
+pub bit-bit_and : (x y b : ℕ) → bit (bit_and x y) b ≡ min (bit x b) (bit y b)
+bit-bit_and = bitwise bit_and min and_step and_shr (λ x y h g. omega arith)
 
-pub bit-xor : (x y b : ℕ) → bit (bit_xor x y) b ≡ differ (bit x b) (bit y b)
-bit-xor = bitwise bit_xor differ xor_step xor_shr differ-lt
+pub bit-bit_xor : (x y b : ℕ) → bit (bit_xor x y) b ≡ differ (bit x b) (bit y b)
+bit-bit_xor = bitwise bit_xor differ xor_step xor_shr differ_lt
 
 -- the complement of n bits
-pub bit-flip-in : (n w b : ℕ) → w < 2 ^ n → b < n → bit ((2 ^ n - 1) - w) b ≡ 1 - bit w b
-bit-flip-in zero w b h g = absurd (omega arith)
-bit-flip-in (suc n) w zero h g = bit-zero ((2 ^ suc n - 1) - w) ∙ omega (arith, bit-zero w)
-bit-flip-in (suc n) w (suc b) h g =
-    bit-suc ((2 ^ suc n - 1) - w) b
+pub bit-flip_in : (n w b : ℕ) → w < 2 ^ n → b < n → bit ((2 ^ n - 1) - w) b ≡ 1 - bit w b
+bit-flip_in zero w b h g = absurd (omega arith)
+bit-flip_in (suc n) w zero h g = bit_zero ((2 ^ suc n - 1) - w) ∙ omega (arith, bit_zero w)
+bit-flip_in (suc n) w (suc b) h g =
+    bit_suc ((2 ^ suc n - 1) - w) b
     ∙ ap (λ (x : ℕ). bit x b) (omega arith)
-    ∙ bit-flip-in n (w / 2) b (omega arith) (omega arith)
-    ∙ ap (λ (x : ℕ). 1 - x) (sym (bit-suc w b))
+    ∙ bit-flip_in n (w / 2) b (omega arith) (omega arith)
+    ∙ ap (λ (x : ℕ). 1 - x) (sym (bit_suc w b))
 
 pub bit-flip : (w b : ℕ) → w < 2 ^ 64 → b < 64 → bit (flip w) b ≡ 1 - bit w b
-bit-flip = bit-flip-in 64
+bit-flip = bit-flip_in 64
 
 -- the number whose lowest n bits are set
-pub ones-on : (n b : ℕ) → b < n → bit (2 ^ n - 1) b ≡ 1
-ones-on n b h =
+pub ones_on : (n b : ℕ) → b < n → bit (2 ^ n - 1) b ≡ 1
+ones_on n b h =
     let z : 2 ^ n - 1 ≡ (2 ^ n - 1) - 0 = omega arith in
-    ap (λ (x : ℕ). bit x b) z ∙ bit-flip-in n 0 b (pow_pos n) h ∙ ap (λ (x : ℕ). 1 - x) (bit-of-zero b)
+    ap (λ (x : ℕ). bit x b) z ∙ bit-flip_in n 0 b (pow_pos n) h ∙ ap (λ (x : ℕ). 1 - x) (bit_of_zero b)
 
-pub ones-off : (n b : ℕ) → n ≤ b → bit (2 ^ n - 1) b ≡ 0
-ones-off n b h = bit_high n (2 ^ n - 1) b (omega (arith, pow_pos n)) h
+pub ones_off : (n b : ℕ) → n ≤ b → bit (2 ^ n - 1) b ≡ 0
+ones_off n b h = bit_high n (2 ^ n - 1) b (omega (arith, pow_pos n)) h
 
 -- ---- one bit
-pub bit-pow-same : (b : ℕ) → bit (2 ^ b) b ≡ 1
+pub bit_pow_same : (b : ℕ) → bit (2 ^ b) b ≡ 1
 unfolding bit
-bit-pow-same b = ap (λ (x : ℕ). x % 2) (ap (λ (x : ℕ). x / 2 ^ b) (sym (one-mul (2 ^ b))) ∙ shl-shr 1 b)
+bit_pow_same b = ap (λ (x : ℕ). x % 2) (ap (λ (x : ℕ). x / 2 ^ b) (sym (one-mul (2 ^ b))) ∙ shl-shr 1 b)
 
-pub bit-pow-other : (b j : ℕ) → j ≢ b → bit (2 ^ b) j ≡ 0
-bit-pow-other zero zero h = absurd (h refl)
-bit-pow-other zero (suc j) h = bit-suc 1 j ∙ bit-of-zero j
-bit-pow-other (suc b) zero h = bit-zero (2 ^ suc b) ∙ omega arith
-bit-pow-other (suc b) (suc j) h =
-    bit-suc (2 ^ suc b) j
+pub bit_pow_other : (b j : ℕ) → j ≢ b → bit (2 ^ b) j ≡ 0
+bit_pow_other zero zero h = absurd (h refl)
+bit_pow_other zero (suc j) h = bit_suc 1 j ∙ bit_of_zero j
+bit_pow_other (suc b) zero h = bit_zero (2 ^ suc b) ∙ omega arith
+bit_pow_other (suc b) (suc j) h =
+    bit_suc (2 ^ suc b) j
     ∙ ap (λ (x : ℕ). bit x j) (ap (λ (x : ℕ). x / 2) (pow-suc 2 b) ∙ mul-div_cancel (2 ^ b) (zero-lt-suc 1))
-    ∙ bit-pow-other b j (λ e. h (ap suc e))
+    ∙ bit_pow_other b j (λ e. h (ap suc e))
 
 -- ---- numbers with the same bits are equal
-pub bit-ext : (x y : ℕ) → ((b : ℕ) → bit x b ≡ bit y b) → x ≡ y
-bit-ext x =
+pub bit_ext : (x y : ℕ) → ((b : ℕ) → bit x b ≡ bit y b) → x ≡ y
+bit_ext x =
     bin_ind (λ (n : ℕ). (y : ℕ) → ((b : ℕ) → bit n b ≡ bit y b) → n ≡ y)
-    (λ y h. zeros y (λ b. sym (h b) ∙ bit-of-zero b))
+    (λ y h. zeros y (λ b. sym (h b) ∙ bit_of_zero b))
     (λ n ih y h.
-    let e : n / 2 ≡ y / 2 = ih (y / 2) (λ b. sym (bit-suc n b) ∙ h (suc b) ∙ bit-suc y b) in
-    let o : n % 2 ≡ y % 2 = sym (bit-zero n) ∙ h 0 ∙ bit-zero y in
+    let e : n / 2 ≡ y / 2 = ih (y / 2) (λ b. sym (bit_suc n b) ∙ h (suc b) ∙ bit_suc y b) in
+    let o : n % 2 ≡ y % 2 = sym (bit_zero n) ∙ h 0 ∙ bit_zero y in
     omega arith) x
   where
     zeros : (y : ℕ) → ((b : ℕ) → bit y b ≡ 0) → 0 ≡ y
     zeros =
         bin_ind (λ (n : ℕ). ((b : ℕ) → bit n b ≡ 0) → 0 ≡ n) (λ h. refl)
         (λ n ih h.
-        let e : 0 ≡ n / 2 = ih (λ b. sym (bit-suc n b) ∙ h (suc b)) in
-        let o : n % 2 ≡ 0 = sym (bit-zero n) ∙ h 0 in
+        let e : 0 ≡ n / 2 = ih (λ b. sym (bit_suc n b) ∙ h (suc b)) in
+        let o : n % 2 ≡ 0 = sym (bit_zero n) ∙ h 0 in
         omega arith)
 
-pub word-ext : (x y : ℕ) → x < 2 ^ 64 → y < 2 ^ 64 → ((b : ℕ) → b < 64 → bit x b ≡ bit y b) → x ≡ y
-word-ext x y hx hy same = bit-ext x y (λ b. go b (dec_lt b 64))
+pub word_ext : (x y : ℕ) → x < 2 ^ 64 → y < 2 ^ 64 → ((b : ℕ) → b < 64 → bit x b ≡ bit y b) → x ≡ y
+word_ext x y hx hy same = bit_ext x y (λ b. go b (dec_lt b 64))
   where
     go : (b : ℕ) → Dec (b < 64) → bit x b ≡ bit y b
     go b (yes h) = same b h
@@ -137,77 +137,77 @@ word-ext x y hx hy same = bit-ext x y (λ b. go b (dec_lt b 64))
 
 -- ---- the test `w & (1 << b)`
 and_pow : (w b : ℕ) → bit_and w (2 ^ b) ≡ bit w b * 2 ^ b
-and_pow w b = bit-ext (bit_and w (2 ^ b)) (bit w b * 2 ^ b) (λ j. bit-and w (2 ^ b) j ∙ at (bit w b) refl j (ℕ_discrete j b))
+and_pow w b = bit_ext (bit_and w (2 ^ b)) (bit w b * 2 ^ b) (λ j. bit-bit_and w (2 ^ b) j ∙ at (bit w b) refl j (ℕ_discrete j b))
   where
     at : (v : ℕ) → bit w b ≡ v → (j : ℕ) → Dec (j ≡ b) → min (bit w j) (bit (2 ^ b) j) ≡ bit (v * 2 ^ b) j
     at zero e j (yes p) =
         let z : bit w j ≡ 0 = ap (bit w) p ∙ e in
-        let y : bit (0 * 2 ^ b) j ≡ 0 = ap (λ (x : ℕ). bit x j) (omega arith) ∙ bit-of-zero j in
+        let y : bit (0 * 2 ^ b) j ≡ 0 = ap (λ (x : ℕ). bit x j) (omega arith) ∙ bit_of_zero j in
         omega arith
     at zero e j (no n) =
-        let z : bit (2 ^ b) j ≡ 0 = bit-pow-other b j n in
-        let y : bit (0 * 2 ^ b) j ≡ 0 = ap (λ (x : ℕ). bit x j) (omega arith) ∙ bit-of-zero j in
+        let z : bit (2 ^ b) j ≡ 0 = bit_pow_other b j n in
+        let y : bit (0 * 2 ^ b) j ≡ 0 = ap (λ (x : ℕ). bit x j) (omega arith) ∙ bit_of_zero j in
         omega arith
     at (suc zero) e j (yes p) =
         let z : bit w j ≡ 1 = ap (bit w) p ∙ e in
         let y : bit (1 * 2 ^ b) j ≡ bit (2 ^ b) j = ap (λ (x : ℕ). bit x j) (omega arith) in
-        omega (arith, bit-lt (2 ^ b) j)
+        omega (arith, bit_lt (2 ^ b) j)
     at (suc zero) e j (no n) =
-        let z : bit (2 ^ b) j ≡ 0 = bit-pow-other b j n in
+        let z : bit (2 ^ b) j ≡ 0 = bit_pow_other b j n in
         let y : bit (1 * 2 ^ b) j ≡ bit (2 ^ b) j = ap (λ (x : ℕ). bit x j) (omega arith) in
         omega arith
-    at (suc (suc v)) e j d = absurd (omega (arith, bit-lt w b))
+    at (suc (suc v)) e j d = absurd (omega (arith, bit_lt w b))
 
 pub test_on : (w b : ℕ) → bit_and w (2 ^ b) ≢ 0 → bit w b ≡ 1
 test_on w b n = bit-on w b (λ e. n (and_pow w b ∙ omega (arith, ap (λ (x : ℕ). x * 2 ^ b) e)))
 
-pub test-off : (w b : ℕ) → bit_and w (2 ^ b) ≡ 0 → bit w b ≡ 0
-test-off w b h = bit-off w b (λ e. omega (arith, pow_pos b, sym (and_pow w b) ∙ h, ap (λ (x : ℕ). x * 2 ^ b) e))
+pub test_off : (w b : ℕ) → bit_and w (2 ^ b) ≡ 0 → bit w b ≡ 0
+test_off w b h = bit_off w b (λ e. omega (arith, pow_pos b, sym (and_pow w b) ∙ h, ap (λ (x : ℕ). x * 2 ^ b) e))
 
 -- ---- `w | 1 << b` sets bit b and no other
-pub or-pow-same : (w b : ℕ) → bit (bit_or w (2 ^ b)) b ≡ 1
-or-pow-same w b = bit-or w (2 ^ b) b ∙ omega (arith, bit-lt w b, bit-pow-same b)
+pub or_pow_same : (w b : ℕ) → bit (bit_or w (2 ^ b)) b ≡ 1
+or_pow_same w b = bit-bit_or w (2 ^ b) b ∙ omega (arith, bit_lt w b, bit_pow_same b)
 
-pub or-pow-other : (w b j : ℕ) → j ≢ b → bit (bit_or w (2 ^ b)) j ≡ bit w j
-or-pow-other w b j h = bit-or w (2 ^ b) j ∙ omega (arith, bit-pow-other b j h)
+pub or_pow_other : (w b j : ℕ) → j ≢ b → bit (bit_or w (2 ^ b)) j ≡ bit w j
+or_pow_other w b j h = bit-bit_or w (2 ^ b) j ∙ omega (arith, bit_pow_other b j h)
 
-pub or-pow-some : (w b : ℕ) → bit_or w (2 ^ b) ≢ 0
-or-pow-some w b e = omega (arith, bit-of-zero b, sym (ap (λ (x : ℕ). bit x b) e) ∙ or-pow-same w b)
+pub or_pow_some : (w b : ℕ) → bit_or w (2 ^ b) ≢ 0
+or_pow_some w b e = omega (arith, bit_of_zero b, sym (ap (λ (x : ℕ). bit x b) e) ∙ or_pow_same w b)
 
 -- ---- `w & !(1 << b)` clears bit b and no other
-pub clear-same : (w b : ℕ) → b < 64 → bit (bit_and w (flip (2 ^ b))) b ≡ 0
-clear-same w b h = bit-and w (flip (2 ^ b)) b ∙ omega (arith, bit-flip (2 ^ b) b (pow-lt h) h, bit-pow-same b)
+pub clear_same : (w b : ℕ) → b < 64 → bit (bit_and w (flip (2 ^ b))) b ≡ 0
+clear_same w b h = bit-bit_and w (flip (2 ^ b)) b ∙ omega (arith, bit-flip (2 ^ b) b (pow-lt h) h, bit_pow_same b)
 
-pub clear-other : (w b j : ℕ) → b < 64 → j < 64 → j ≢ b → bit (bit_and w (flip (2 ^ b))) j ≡ bit w j
-clear-other w b j h g n =
-    bit-and w (flip (2 ^ b)) j
-    ∙ omega (arith, bit-flip (2 ^ b) j (pow-lt h) g, bit-pow-other b j n, bit-lt w j)
+pub clear_other : (w b j : ℕ) → b < 64 → j < 64 → j ≢ b → bit (bit_and w (flip (2 ^ b))) j ≡ bit w j
+clear_other w b j h g n =
+    bit-bit_and w (flip (2 ^ b)) j
+    ∙ omega (arith, bit-flip (2 ^ b) j (pow-lt h) g, bit_pow_other b j n, bit_lt w j)
 
 -- a set bit is cleared by taking it away
 module _ (w b : ℕ) (h : w < 2 ^ 64) (g : b < 64) (on : bit w b ≡ 1) where
   put_back : bit_or (bit_and w (flip (2 ^ b))) (2 ^ b) ≡ w
   put_back =
-      word-ext (bit_or (bit_and w (flip (2 ^ b))) (2 ^ b)) w
+      word_ext (bit_or (bit_and w (flip (2 ^ b))) (2 ^ b)) w
       (or_lt 64 (bit_and w (flip (2 ^ b))) (2 ^ b) (omega (arith, and_le_l w (flip (2 ^ b)))) (pow-lt g)) h
       (λ j l. at j l (ℕ_discrete j b))
     where
       at : (j : ℕ) → j < 64 → Dec (j ≡ b) → bit (bit_or (bit_and w (flip (2 ^ b))) (2 ^ b)) j ≡ bit w j
       at j l (yes p) =
           ap (bit (bit_or (bit_and w (flip (2 ^ b))) (2 ^ b))) p
-          ∙ or-pow-same (bit_and w (flip (2 ^ b))) b ∙ sym on ∙ ap (bit w) (sym p)
-      at j l (no n) = or-pow-other (bit_and w (flip (2 ^ b))) b j n ∙ clear-other w b j g l n
+          ∙ or_pow_same (bit_and w (flip (2 ^ b))) b ∙ sym on ∙ ap (bit w) (sym p)
+      at j l (no n) = or_pow_other (bit_and w (flip (2 ^ b))) b j n ∙ clear_other w b j g l n
 
-  pub clear-minus : bit_and w (flip (2 ^ b)) ≡ w - 2 ^ b
-  clear-minus =
+  pub clear_minus : bit_and w (flip (2 ^ b)) ≡ w - 2 ^ b
+  clear_minus =
       let c : ℕ = bit_and w (flip (2 ^ b)) in
-      let apart : bit_and c (2 ^ b) ≡ 0 = and_pow c b ∙ omega (arith, ap (λ (x : ℕ). x * 2 ^ b) (clear-same w b g)) in
+      let apart : bit_and c (2 ^ b) ≡ 0 = and_pow c b ∙ omega (arith, ap (λ (x : ℕ). x * 2 ^ b) (clear_same w b g)) in
       omega (arith, sym (or_disjoint c (2 ^ b) apart) ∙ put_back)
 
-  pub minus-same : bit (w - 2 ^ b) b ≡ 0
-  minus-same = ap (λ (x : ℕ). bit x b) (sym clear-minus) ∙ clear-same w b g
+  pub minus_same : bit (w - 2 ^ b) b ≡ 0
+  minus_same = ap (λ (x : ℕ). bit x b) (sym clear_minus) ∙ clear_same w b g
 
-  pub minus-other : (j : ℕ) → j < 64 → j ≢ b → bit (w - 2 ^ b) j ≡ bit w j
-  minus-other j l n = ap (λ (x : ℕ). bit x j) (sym clear-minus) ∙ clear-other w b j g l n
+  pub minus_other : (j : ℕ) → j < 64 → j ≢ b → bit (w - 2 ^ b) j ≡ bit w j
+  minus_other j l n = ap (λ (x : ℕ). bit x j) (sym clear_minus) ∙ clear_other w b j g l n
 
 -- ---- one bit set or cleared
 module _ (on : Bool) (w b : ℕ) (h : b < 64) where
@@ -216,59 +216,59 @@ module _ (on : Bool) (w b : ℕ) (h : b < 64) where
   change-same = go on
     where
       go : (x : Bool) → bit (cond x (bit_or w (2 ^ b)) (bit_and w (flip (2 ^ b)))) b ≡ cond x 1 0
-      go true = or-pow-same w b
-      go false = clear-same w b h
+      go true = or_pow_same w b
+      go false = clear_same w b h
 
-  pub change-other : (j : ℕ) → j < 64 → j ≢ b → bit (change on w b) j ≡ bit w j
+  pub change_other : (j : ℕ) → j < 64 → j ≢ b → bit (change on w b) j ≡ bit w j
   unfolding change
-  change-other j l n = go on
+  change_other j l n = go on
     where
       go : (x : Bool) → bit (cond x (bit_or w (2 ^ b)) (bit_and w (flip (2 ^ b)))) j ≡ bit w j
-      go true = or-pow-other w b j n
-      go false = clear-other w b j h l n
+      go true = or_pow_other w b j n
+      go false = clear_other w b j h l n
 
-  pub change-lt : w < 2 ^ 64 → change on w b < 2 ^ 64
+  pub change_lt : w < 2 ^ 64 → change on w b < 2 ^ 64
   unfolding change
-  change-lt l = go on
+  change_lt l = go on
     where
       go : (x : Bool) → cond x (bit_or w (2 ^ b)) (bit_and w (flip (2 ^ b))) < 2 ^ 64
       go true = or_lt 64 w (2 ^ b) l (pow-lt h)
       go false = omega (arith, and_le_l w (flip (2 ^ b)))
 
   -- the word stays as it is exactly where the bit is so already
-  pub change-kept : w < 2 ^ 64 → bit w b ≡ cond on 1 0 → change on w b ≡ w
-  change-kept l e = word-ext (change on w b) w (change-lt l) l (λ j g. at j g (ℕ_discrete j b))
+  pub change_kept : w < 2 ^ 64 → bit w b ≡ cond on 1 0 → change on w b ≡ w
+  change_kept l e = word_ext (change on w b) w (change_lt l) l (λ j g. at j g (ℕ_discrete j b))
     where
       at : (j : ℕ) → j < 64 → Dec (j ≡ b) → bit (change on w b) j ≡ bit w j
       at j g (yes q) = ap (bit (change on w b)) q ∙ change-same ∙ sym e ∙ sym (ap (bit w) q)
-      at j g (no n) = change-other j g n
+      at j g (no n) = change_other j g n
 
-  pub kept-change : change on w b ≡ w → bit w b ≡ cond on 1 0
-  kept-change e = sym (ap (λ (x : ℕ). bit x b) e) ∙ change-same
+  pub kept_change : change on w b ≡ w → bit w b ≡ cond on 1 0
+  kept_change e = sym (ap (λ (x : ℕ). bit x b) e) ∙ change-same
 
 -- a word with a bit set in it is not 0
-pub set-some : (w b : ℕ) → change true w b ≢ 0
+pub set_some : (w b : ℕ) → change true w b ≢ 0
 unfolding change
-set-some w b = or-pow-some w b
+set_some w b = or_pow_some w b
 
 -- the code's test of a bit is the definition's
 pub tested : (w b : ℕ) → not (eqb (bit_and w (2 ^ b)) 0) ≡ eqb (bit w b) 1
 tested w b = go (ℕ_discrete (bit_and w (2 ^ b)) 0)
   where
     go : Dec (bit_and w (2 ^ b) ≡ 0) → not (eqb (bit_and w (2 ^ b)) 0) ≡ eqb (bit w b) 1
-    go (yes e) = ap not (eq-eqb (bit_and w (2 ^ b)) 0 e) ∙ sym (ne_eqb (bit w b) 1 (λ x. omega (arith, test-off w b e)))
+    go (yes e) = ap not (eq-eqb (bit_and w (2 ^ b)) 0 e) ∙ sym (ne_eqb (bit w b) 1 (λ x. omega (arith, test_off w b e)))
     go (no n) = ap not (ne_eqb (bit_and w (2 ^ b)) 0 n) ∙ sym (eq-eqb (bit w b) 1 (test_on w b n))
 
 -- a word whose bits from n on are clear is below 2 ^ n
-clear-below : (m n w : ℕ) → w < 2 ^ (n + m) → ((b : ℕ) → n ≤ b → b < n + m → bit w b ≡ 0) → w < 2 ^ n
+clear_below : (m n w : ℕ) → w < 2 ^ (n + m) → ((b : ℕ) → n ≤ b → b < n + m → bit w b ≡ 0) → w < 2 ^ n
 unfolding bit
-clear-below zero n w h c = subst (λ (x : ℕ). w < 2 ^ x) (add-zero n) h
-clear-below (suc m) n w h c =
+clear_below zero n w h c = subst (λ (x : ℕ). w < 2 ^ x) (add-zero n) h
+clear_below (suc m) n w h c =
     let e : n + suc m ≡ suc (n + m) = omega arith in
     let l : w < 2 ^ (n + m) * 2 = subst (λ (x : ℕ). w < x) (ap (λ (x : ℕ). 2 ^ x) e ∙ pow-suc 2 (n + m)) h in
     let z : w / 2 ^ (n + m) % 2 ≡ 0 = c (n + m) (omega arith) (omega arith) in
     let t : w / 2 ^ (n + m) < 2 = (div-lt_iff_lt-mul (pow_pos (n + m))).1 (omega arith) in
-    clear-below m n w (omega (arith, split w (n + m), mod-lt w (pow_pos (n + m)), ap (λ (x : ℕ). x * 2 ^ (n + m)) (small (w / 2 ^ (n + m)) t z)))
+    clear_below m n w (omega (arith, split w (n + m), mod-lt w (pow_pos (n + m)), ap (λ (x : ℕ). x * 2 ^ (n + m)) (small (w / 2 ^ (n + m)) t z)))
     (λ b i u. c b i (omega arith))
   where
     small : (x : ℕ) → x < 2 → x % 2 ≡ 0 → x ≡ 0
@@ -277,4 +277,4 @@ clear-below (suc m) n w h c =
 pub bits_below : (n w : ℕ) → n ≤ 64 → w < 2 ^ 64 → ((b : ℕ) → n ≤ b → b < 64 → bit w b ≡ 0) → w < 2 ^ n
 bits_below n w h l c =
     let e : 64 ≡ n + (64 - n) = omega arith in
-    clear-below (64 - n) n w (subst (λ (x : ℕ). w < 2 ^ x) e l) (λ b i u. c b i (omega arith))
+    clear_below (64 - n) n w (subst (λ (x : ℕ). w < 2 ^ x) e l) (λ b i u. c b i (omega arith))

@@ -6,10 +6,10 @@ use native.Mathlib.Omega.{arith}
 use lib.Bits.{bit_and, and_step, and_self}
 use lib.Count.{count_trailing_zeros, under}
 
-less-in : (n m : ℕ) → m < 2 ^ n → 0 < m → bit_and m (m - 1) ≡ m - 2 ^ count_trailing_zeros n m
+less_in : (n m : ℕ) → m < 2 ^ n → 0 < m → bit_and m (m - 1) ≡ m - 2 ^ count_trailing_zeros n m
 unfolding count_trailing_zeros
-less-in zero m h p = absurd (omega arith)
-less-in (suc n) m h p = go (m % 2) refl (λ q. less-in n (m / 2) (omega (arith, pow-suc 2 n)) q)
+less_in zero m h p = absurd (omega arith)
+less_in (suc n) m h p = go (m % 2) refl (λ q. less_in n (m / 2) (omega (arith, pow-suc 2 n)) q)
   where
     go : (r : ℕ) → m % 2 ≡ r → (0 < m / 2 → bit_and (m / 2) (m / 2 - 1) ≡ m / 2 - 2 ^ count_trailing_zeros n (m / 2))
         → bit_and m (m - 1) ≡ m - 2 ^ under r (count_trailing_zeros n (m / 2))
@@ -24,5 +24,5 @@ less-in (suc n) m h p = go (m % 2) refl (λ q. less-in n (m / 2) (omega (arith, 
         ∙ ap (λ (x : ℕ). bit_and (m / 2) x * 2 + min (m % 2) ((m - 1) % 2)) half
         ∙ omega (arith, and_self (m / 2))
 
-pub less-is : (m : ℕ) → m < 2 ^ 64 → 0 < m → bit_and m (m - 1) ≡ m - 2 ^ count_trailing_zeros 64 m
-less-is m h p = less-in 64 m h p
+pub less_is : (m : ℕ) → m < 2 ^ 64 → 0 < m → bit_and m (m - 1) ≡ m - 2 ^ count_trailing_zeros 64 m
+less_is m h p = less_in 64 m h p

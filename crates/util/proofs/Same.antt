@@ -16,9 +16,9 @@ unfolding same
 same_refl [] = refl
 same_refl (a ∷ s) = rw (eq-eqb a a refl) (same_refl s)
 
-pub same-eq : (s t : List ℕ) → same s t ≡ true → s ≡ t
+pub same_eq : (s t : List ℕ) → same s t ≡ true → s ≡ t
 unfolding same
-same-eq [] [] e = refl
-same-eq [] (b ∷ t) e = absurd (true≢false (sym e))
-same-eq (a ∷ s) [] e = absurd (true≢false (sym e))
-same-eq (a ∷ s) (b ∷ t) e = let k = both (eqb a b) (same s t) e in ap₂ (λ (x : ℕ) (l : List ℕ). x ∷ l) (eqb-true a b k.0) (same-eq s t k.1)
+same_eq [] [] e = refl
+same_eq [] (b ∷ t) e = absurd (true≢false (sym e))
+same_eq (a ∷ s) [] e = absurd (true≢false (sym e))
+same_eq (a ∷ s) (b ∷ t) e = let k = both (eqb a b) (same s t) e in ap₂ (λ (x : ℕ) (l : List ℕ). x ∷ l) (eqb-true a b k.0) (same_eq s t k.1)

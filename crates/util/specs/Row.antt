@@ -12,5 +12,5 @@ row_of i shift = i / 2 ^ shift % 64
 abbrev pub mask_of : ℕ → ℕ → ℕ
 mask_of i shift = 2 ^ row_of i shift
 
-abbrev pub offsetsOf : ℕ → Parents
-offsetsOf i = record { layer0 = offset_of i 6; layer1 = offset_of i 12; layer2 = offset_of i 18 }
+abbrev pub offsets_of : ℕ → Parents
+offsets_of i = record { layer0 = offset_of i 6; layer1 = offset_of i 12; layer2 = offset_of i 18 }

@@ -1,7 +1,7 @@
 // Bits and shifts: the Rust's util.rs on 64-bit words, and the lowest set bit.
 ghost use Rattle.std.specs.Prelude.{◌≡◌, ◌%◌, ◌-◌, ◌^◌, eqb};
 ghost use Rattle.std.specs.Int.Count.{count_trailing_zeros};
-ghost use Rattle.util.specs.Row.{offset_of, row_of, mask_of, offsetsOf};
+ghost use Rattle.util.specs.Row.{offset_of, row_of, mask_of, offsets_of};
 ghost use Rattle.util.specs.Word.{bit, change};
 
 // Base two log of the number of bits in a word.
@@ -51,7 +51,7 @@ pub fn mask(index: u32, shift: usize) -> u64
 
 // The words of three layers at once.
 pub fn offsets(bit: u32) -> Parents
-    ensures { result ≡ offsetsOf bit }
+    ensures { result ≡ offsets_of bit }
 {
     Parents {
         layer0: offset(bit, SHIFT1),

@@ -6,7 +6,7 @@ use Rattle.std.proofs.Math.Seq.{take-append_seam, drop-append_seam}
 use Rattle.util.specs.Outcome.{Outcome, Paper}
 use Rattle.store.specs.Layout.{top, cap, is_store}
 use Rattle.store.specs.Word.{word}
-unfoldable pub use Rattle.walk_masks.specs.Prefixes.{prefixesFit}
+unfoldable pub use Rattle.walk_masks.specs.Prefixes.{prefixes_fit}
 use Rattle.walk.specs.Walk.{start_at, next}
 use Rattle.walk.specs.declared.Cursor.{Cursor}
 use Rattle.walk.specs.declared.Next.{Next}
@@ -46,31 +46,31 @@ answer_of n (suc zero) v = Member v
 answer_of n (suc (suc zero)) v = Paused
 answer_of n (suc (suc (suc w))) v = End
 
-abbrev readBack : List ℕ → Step
-readBack l = record {
+abbrev read_back : List ℕ → Step
+read_back l = record {
   cursor = record { masks = take (get_or l 4 0) (drop 5 l); prefix = drop (get_or l 4 0) (drop 5 l) };
   reads = get_or l 3 0;
   answer = answer_of (get_or l 0 0) (get_or l 1 0) (get_or l 2 0);
 }
 
-abbrev answerBack : (n : Next) → answer_of (number n) (which n) (id n) ≡ n
-answerBack (Member v) = refl
-answerBack Paused = refl
-answerBack End = refl
-answerBack (Refused n) = refl
+abbrev answer_back : (n : Next) → answer_of (number n) (which n) (id n) ≡ n
+answer_back (Member v) = refl
+answer_back Paused = refl
+answer_back End = refl
+answer_back (Refused n) = refl
 
-abbrev stepBack : (a : Step) → readBack (numbers a) ≡ a
-stepBack a =
+abbrev step_back : (a : Step) → read_back (numbers a) ≡ a
+step_back a =
     let c = a.cursor in
     ap₂ (λ (d : Cursor) (n : Next). record { cursor = d; reads = a.reads; answer = n })
     (ap₂ (λ (m p : List ℕ). record { masks = m; prefix = p }) (take-append_seam c.masks c.prefix) (drop-append_seam c.masks c.prefix))
-    (answerBack a.answer)
+    (answer_back a.answer)
 
-abbrev pub stepPaper : Paper Step
-stepPaper = record { numbers = numbers; answer = readBack; same = stepBack }
+abbrev pub step_paper : Paper Step
+step_paper = record { numbers = numbers; answer = read_back; same = step_back }
 
 abbrev pub written : Step → Outcome (Unit {0})
-written a = record { numbers = stepPaper.numbers a; lent = tt }
+written a = record { numbers = step_paper.numbers a; lent = tt }
 
 -- ---- refusals
 
@@ -79,7 +79,7 @@ refused n c = record { cursor = c; reads = 0; answer = Refused n }
 
 -- refusal 7 is given where this is false
 abbrev pub fits : ℕ → Cursor → Bool
-fits t c = prefixesFit t c.prefix t
+fits t c = prefixes_fit t c.prefix t
 
 -- the same as facts of each prefix
 abbrev pub Fine : ℕ → List ℕ → Type 0
@@ -96,8 +96,8 @@ start_in s c =
     (refused 2 c)
 
 -- refusals 2, then 7
-unfoldable pub nextIn : List ℕ → Cursor → ℕ → Step
-nextIn s c b =
+unfoldable pub next_in : List ℕ → Cursor → ℕ → Step
+next_in s c b =
     let N = cap s in
     let a = next (word N s) (top N) b c in
     cond (is_store s) (cond (fits (top N) c) a (refused 7 c)) (refused 2 c)
@@ -106,4 +106,4 @@ abbrev pub start_of : List ℕ → Cursor → Outcome (Unit {0})
 start_of s c = written (start_in s c)
 
 abbrev pub next_of : List ℕ → Cursor → ℕ → Outcome (Unit {0})
-next_of s c b = written (nextIn s c b)
+next_of s c b = written (next_in s c b)

@@ -1,8 +1,8 @@
 -- What the private steps ask and leave; t is the number of the top layer.
 use Rattle.std.specs.Prelude.{Bool, true, false, cond, List, [], ◌≡◌, ℕ, zero, suc, ◌-◌, ◌%◌, ◌≤◌, get_or}
-unfoldable pub use Rattle.walk_masks.specs.Prefixes.{refusalOf}
+unfoldable pub use Rattle.walk_masks.specs.Prefixes.{refusal_of}
 use Rattle.walk.specs.Calls.{Fine}
-use Rattle.walk.specs.Walk.{Kind, lowLayer, kind, placeAt, handed, handled, more, descend, next}
+use Rattle.walk.specs.Walk.{Kind, low_layer, kind, place_at, handed, handled, more, descend, next}
 use Rattle.walk.specs.Walk.Kind.{gives, reads, done}
 use Rattle.walk.specs.declared.Cursor.{Cursor}
 use Rattle.walk.specs.declared.Next.TheVariants.{Member, Paused, End}
@@ -14,10 +14,10 @@ abbrev pub parts : List (List ℕ) → ℕ → ℕ → ℕ
 parts ls k i = get_or (get_or ls k []) i 0
 
 -- a word has to be read
-abbrev pub isReading : Kind → Bool
-isReading gives = false
-isReading (reads j) = true
-isReading done = false
+abbrev pub is_reading : Kind → Bool
+is_reading gives = false
+is_reading (reads j) = true
+is_reading done = false
 
 -- the lowest bit of layer j + 1 was taken, and the word below it read
 pub record Descended (lw : ℕ → ℕ → ℕ) (t j : ℕ) (c d : Cursor) : Type 0 where
@@ -34,13 +34,13 @@ pub record Going (lw : ℕ → ℕ → ℕ) (t b r₀ : ℕ) (c₀ c : Cursor) (
 -- until no word is wanted or the budget is spent
 pub record Sank (lw : ℕ → ℕ → ℕ) (t b r₀ : ℕ) (c : Cursor) (d : Sunk) : Type 0 where
   pub going : Going lw t b r₀ c d.cursor d.reads
-  pub stopped : isReading (kind t d.cursor) ≡ true → d.reads ≡ b
+  pub stopped : is_reading (kind t d.cursor) ≡ true → d.reads ≡ b
 
 -- ---- the same for every cursor, its prefixes fine or not
 
 -- the lowest bit of layer j + 1 is taken, and the word below it read
 abbrev pub lowered : (ℕ → ℕ → ℕ) → ℕ → ℕ → Cursor → Cursor
-lowered lw t j c = handled t j (lw j (placeAt t c (suc j))) c
+lowered lw t j c = handled t j (lw j (place_at t c (suc j))) c
 
 -- with what it is where they are fine
 pub record Lowers (lw : ℕ → ℕ → ℕ) (t j : ℕ) (c d : Cursor) : Type 0 where
@@ -51,21 +51,21 @@ pub record Lowers (lw : ℕ → ℕ → ℕ) (t j : ℕ) (c d : Cursor) : Type 0
 unfoldable pub sunk : (ℕ → ℕ → ℕ) → ℕ → ℕ → ℕ → Cursor → Sunk
 sunk lw t zero r c = record { cursor = c; reads = r }
 sunk lw t (suc b) r c =
-    let d = sunk lw t b (suc r) (lowered lw t (lowLayer t c - 1) c) in
-    cond (isReading (kind t c)) d (record { cursor = c; reads = r })
+    let d = sunk lw t b (suc r) (lowered lw t (low_layer t c - 1) c) in
+    cond (is_reading (kind t c)) d (record { cursor = c; reads = r })
 
 pub record Sinks (lw : ℕ → ℕ → ℕ) (t b r₀ : ℕ) (c : Cursor) (d : Sunk) : Type 0 where
   pub is : d ≡ sunk lw t (b - r₀) r₀ c
   pub sank : Fine t c.prefix → r₀ ≤ b → Sank lw t b r₀ c d
 
 -- what is answered after r reads where no word is read any more
-abbrev pub finishedBy : ℕ → ℕ → Cursor → Kind → Step
-finishedBy t r c gives = record { cursor = handed c; reads = r; answer = Member (placeAt t c 0 % 4294967296) }
-finishedBy t r c (reads j) = record { cursor = c; reads = r; answer = Paused }
-finishedBy t r c done = record { cursor = c; reads = r; answer = End }
+abbrev pub finished_by : ℕ → ℕ → Cursor → Kind → Step
+finished_by t r c gives = record { cursor = handed c; reads = r; answer = Member (place_at t c 0 % 4294967296) }
+finished_by t r c (reads j) = record { cursor = c; reads = r; answer = Paused }
+finished_by t r c done = record { cursor = c; reads = r; answer = End }
 
 abbrev pub finished : ℕ → ℕ → Cursor → Step
-finished t r c = finishedBy t r c (kind t c)
+finished t r c = finished_by t r c (kind t c)
 
 pub record Finishes (t r : ℕ) (c : Cursor) (a : Step) : Type 0 where
   pub is : a ≡ finished t r c

@@ -1,8 +1,8 @@
 -- The walk over any layer words, with no store in it: `lw k i` is word i of layer k, and t is the number of the top layer. One store is an
 -- instance of it. Document 01: "A cursor holds four masks and three prefixes, as `BitIter`." Layer k's mask and prefix stand at place k.
 use Rattle.std.specs.Prelude.{cond, List, ℕ, zero, suc, ◌+◌, ◌-◌, ◌*◌, ◌%◌, ◌^◌, ltb, get_or, set, replicate}
-use Rattle.walk_masks.specs.Masks.{lowestBit, bare}
-unfoldable pub use Rattle.walk_masks.specs.Masks.{lowFrom, prefixAt}
+use Rattle.walk_masks.specs.Masks.{lowest_bit, bare}
+unfoldable pub use Rattle.walk_masks.specs.Masks.{low_from, prefix_at}
 use Rattle.walk.specs.declared.Cursor.{Cursor}
 use Rattle.walk.specs.declared.Next.TheVariants.{Member, Paused, End}
 use Rattle.walk.specs.declared.Step.{Step}
@@ -10,8 +10,8 @@ use Rattle.walk.specs.declared.Step.{Step}
 -- ---- what a cursor stands before
 
 -- "the lowest layer with a non-zero mask", of the layers 0 to t; t + 1 where all masks are 0
-abbrev pub lowLayer : ℕ → Cursor → ℕ
-lowLayer t c = lowFrom c.masks 0 (suc t)
+abbrev pub low_layer : ℕ → Cursor → ℕ
+low_layer t c = low_from c.masks 0 (suc t)
 
 -- a member in the layer-0 mask; a read, of the layer below the lowest one with a mask; or the end
 pub data Kind : Type 0 where
@@ -24,21 +24,21 @@ kind_of t zero = gives
 kind_of t (suc j) = cond (ltb j t) (reads j) done
 
 abbrev pub kind : ℕ → Cursor → Kind
-kind t c = kind_of t (lowLayer t c)
+kind t c = kind_of t (low_layer t c)
 
 -- ---- a bit taken
 
 -- layer k "gives its lowest bit"
-abbrev pub firstBit : Cursor → ℕ → ℕ
-firstBit c k = lowestBit c.masks k
+abbrev pub first_bit : Cursor → ℕ → ℕ
+first_bit c k = lowest_bit c.masks k
 
 -- the place of that bit in its layer; a prefix is a multiple of 64, so the sum is the crate's bitwise or
-unfoldable pub placeAt : ℕ → Cursor → ℕ → ℕ
-placeAt t c k = prefixAt t c.prefix k + firstBit c k
+unfoldable pub place_at : ℕ → Cursor → ℕ → ℕ
+place_at t c k = prefix_at t c.prefix k + first_bit c k
 
 -- layer k's mask without it, and the masks so
 abbrev pub cleared : Cursor → ℕ → ℕ
-cleared c k = get_or c.masks k 0 - 2 ^ firstBit c k
+cleared c k = get_or c.masks k 0 - 2 ^ first_bit c k
 
 unfoldable pub less : Cursor → ℕ → List ℕ
 less c k = bare c.masks k
@@ -53,12 +53,12 @@ taken c j q w = record { masks = set (less c (suc j)) j w; prefix = set c.prefix
 
 -- the same with the place counted modulo 2 ^ 26, as many as prefixes of 32 bits have: so it is said of every cursor
 abbrev pub handled : ℕ → ℕ → ℕ → Cursor → Cursor
-handled t j w c = taken c j (placeAt t c (suc j) % 67108864) w
+handled t j w c = taken c j (place_at t c (suc j) % 67108864) w
 
 -- ---- answers
 
 abbrev pub member : ℕ → Cursor → Step
-member t c = record { cursor = handed c; reads = 0; answer = Member (placeAt t c 0) }
+member t c = record { cursor = handed c; reads = 0; answer = Member (place_at t c 0) }
 
 -- "It pauses exactly when a read is needed and the budget is spent, the cursor then standing before that read."
 abbrev pub paused : Cursor → Step
@@ -87,7 +87,7 @@ start_at t w = record { masks = set (replicate (suc t) 0) t w; prefix = replicat
 module _ (lw : ℕ → ℕ → ℕ) (t : ℕ) where
   -- "the lowest layer with a non-zero mask gives its lowest bit, and one word below is read": the lowest layer is j + 1
   abbrev pub descend : ℕ → Cursor → Cursor
-  descend j c = let q = placeAt t c (suc j) in taken c j q (lw j q)
+  descend j c = let q = place_at t c (suc j) in taken c j q (lw j q)
 
   -- "Next takes a budget of word reads and hands back the cursor, the reads made and one of: member, paused, end."
   unfoldable pub next : ℕ → Cursor → Step

@@ -1,10 +1,10 @@
 // The walk of one store: the Rust's iter/mod.rs, `BitIter`, as a cursor by value whose calls hand it back.
 ghost use Rattle.std.specs.Prelude.{true, [], ◌∷◌, ◌≡◌, ℕ, suc, ◌+◌, ◌-◌, ◌%◌, ◌<◌, get_or};
 ghost use Rattle.util.specs.Outcome.{Settled};
-ghost use Rattle.store.specs.Layout.{top, topMost};
-ghost use Rattle.walk.specs.Calls.{stepPaper, start_of, next_of, fits, Fine};
-ghost use Rattle.walk.specs.Steps.{refusalOf, parts, isReading, Lowers, Sinks, Finishes};
-ghost use Rattle.walk.specs.Walk.{lowLayer, kind, firstBit, placeAt, handed, handled, start_at, next};
+ghost use Rattle.store.specs.Layout.{top, top_most};
+ghost use Rattle.walk.specs.Calls.{step_paper, start_of, next_of, fits, Fine};
+ghost use Rattle.walk.specs.Steps.{refusal_of, parts, is_reading, Lowers, Sinks, Finishes};
+ghost use Rattle.walk.specs.Walk.{low_layer, kind, first_bit, place_at, handed, handled, start_at, next};
 
 pub use walk_masks::are_prefixes;
 
@@ -41,7 +41,7 @@ pub struct Sunk {
 
 // The cursor above everything that stands below a top word.
 pub fn above(top: u64) -> Cursor
-    ensures { result ≡ start_at topMost top }
+    ensures { result ≡ start_at top_most top }
 {
     let mut masks = [0; store::LAYERS];
     masks[store::TOP] = top;
@@ -54,7 +54,7 @@ pub fn above(top: u64) -> Cursor
 impl Cursor {
     // Where the lowest bit of layer k's mask stands in its layer; the top layer has no prefix. Layers count modulo their number.
     pub fn place(self, k: usize) -> usize
-        ensures { let j = k % suc topMost in (result ≡ placeAt topMost self j) × (0 < get_or self.masks j 0 → firstBit self j < 64) }
+        ensures { let j = k % suc top_most in (result ≡ place_at top_most self j) × (0 < get_or self.masks j 0 → first_bit self j < 64) }
     {
         let masks = self.masks;
         let prefix = self.prefix;
@@ -75,7 +75,7 @@ impl Cursor {
 
     // The lowest bit of the layer above layer j is taken, and the word below it, of layer j, is in hand. Layers count modulo the top one.
     pub fn handle_level(self, j: usize, word: u64) -> Cursor
-        ensures { result ≡ handled topMost (j % topMost) word self }
+        ensures { result ≡ handled top_most (j % top_most) word self }
     {
         let masks = self.masks;
         let prefix = self.prefix;
@@ -88,8 +88,8 @@ impl Cursor {
 
     // The word below the lowest bit of the layer above layer j is read.
     fn read(self, layer: &[u64], j: usize) -> Cursor
-        requires { (j < topMost) × (0 < get_or self.masks (j + 1) 0) }
-        ensures { Lowers (λ (k i : ℕ). get_or layer.now i 0) topMost j self result }
+        requires { (j < top_most) × (0 < get_or self.masks (j + 1) 0) }
+        ensures { Lowers (λ (k i : ℕ). get_or layer.now i 0) top_most j self result }
     {
         let q = self.place(j + 1);
         self.handle_level(j, store::get(layer, q))
@@ -97,7 +97,7 @@ impl Cursor {
 
     // Whether a word has to be read before the next member.
     pub fn wants(self) -> bool
-        ensures { result ≡ isReading (kind topMost self) }
+        ensures { result ≡ is_reading (kind top_most self) }
     {
         let masks = self.masks;
         walk_masks::wants(masks)
@@ -105,9 +105,9 @@ impl Cursor {
 
     // One word is read. Each layer has a way of its own, so that the masks stay in registers.
     fn down(self, l2: &[u64], l1: &[u64], l0: &[u64]) -> Cursor
-        requires { isReading (kind topMost self) ≡ true }
+        requires { is_reading (kind top_most self) ≡ true }
         ensures { let ls = l0.now ∷ l1.now ∷ l2.now ∷ [] in
-            Lowers (parts ls) topMost (lowLayer topMost self - 1) self result }
+            Lowers (parts ls) top_most (low_layer top_most self - 1) self result }
     {
         let masks = self.masks;
         if masks[1] != 0 {
@@ -121,7 +121,7 @@ impl Cursor {
 
     // After so many reads, words of three layers are read until none is wanted or the budget is spent.
     pub fn sink(self, l2: &[u64], l1: &[u64], l0: &[u64], spent: u64, budget: u64) -> Sunk
-        ensures { Sinks (parts (l0.now ∷ l1.now ∷ l2.now ∷ [])) topMost budget spent self result }
+        ensures { Sinks (parts (l0.now ∷ l1.now ∷ l2.now ∷ [])) top_most budget spent self result }
     {
         let mut c = self;
         let mut reads = spent;
@@ -148,7 +148,7 @@ impl Cursor {
 
     // The refusal of a walk on a store of n ids, none being no store; or 0.
     pub fn refusal(self, n: usize) -> u32
-        ensures { result ≡ refusalOf n (fits (top n) self) }
+        ensures { result ≡ refusal_of n (fits (top n) self) }
     {
         let prefix = self.prefix;
         walk_masks::refusal(n, prefix)
@@ -156,7 +156,7 @@ impl Cursor {
 
     // What next answers where no word is read any more, after so many reads. An id has 32 bits.
     pub fn finish(self, reads: u64) -> Step
-        ensures { Finishes topMost reads self result }
+        ensures { Finishes top_most reads self result }
     {
         let masks = self.masks;
         if masks[0] != 0 {
@@ -172,8 +172,8 @@ impl Cursor {
 
     // Next over three layers, where nothing is refused.
     fn run(self, l2: &[u64], l1: &[u64], l0: &[u64], budget: u64) -> Step
-        requires { Fine topMost self.prefix }
-        ensures { result ≡ next (parts (l0.now ∷ l1.now ∷ l2.now ∷ [])) topMost budget self }
+        requires { Fine top_most self.prefix }
+        ensures { result ≡ next (parts (l0.now ∷ l1.now ∷ l2.now ∷ [])) top_most budget self }
     {
         let d = self.sink(l2, l1, l0, 0, budget);
         let c = d.cursor;
@@ -182,7 +182,7 @@ impl Cursor {
 
     // A walk's start: the top word is read. What the given cursor holds does not matter.
     pub fn start(self, store: &[u64]) -> Step
-        ensures { Settled stepPaper (start_of store.now self) result tt }
+        ensures { Settled step_paper (start_of store.now self) result tt }
     {
         if store::capacity(store) == 0 {
             return self.step(0, Next::Refused(2));
@@ -193,7 +193,7 @@ impl Cursor {
 
     // The next member, at a budget of word reads.
     pub fn next(self, store: &[u64], budget: u64) -> Step
-        ensures { Settled stepPaper (next_of store.now self budget) result tt }
+        ensures { Settled step_paper (next_of store.now self budget) result tt }
     {
         let n = store::capacity(store);
         let no = self.refusal(n);

@@ -7,7 +7,7 @@ use native.Mathlib.Omega.{arith}
 use lib.ListN.{length, take, drop, length-append, length-drop}
 use lib.Seq.{take-append_seam}
 use Rattle.util.specs.Outcome.{Settled, settles}
-use Rattle.store.specs.Layout.{top, cap, is_store, topMost}
+use Rattle.store.specs.Layout.{top, cap, is_store, top_most}
 use Rattle.store.specs.Word.{word, Words64}
 use Rattle.store.proofs.Geometry.{store_is}
 use Rattle.store.proofs.Words.{word_lt}
@@ -15,26 +15,26 @@ use Rattle.walk.specs.Calls.{Fine}
 use Rattle.walk.specs.Walk.{start_at}
 use Rattle.walk.specs.declared.Cursor.{Cursor}
 use Rattle.walk.specs.declared.Step.{Step}
-use Rattle.walk.proofs.Answers.{started-is}
-use Rattle.walk_fill.specs.Fill.{Filled, batchPaper, batch, fillFrom, fillIn, fillOf}
+use Rattle.walk.proofs.Answers.{started_is}
+use Rattle.walk_fill.specs.Fill.{Filled, batch_paper, batch, fill_from, fill_in, fill_of}
 use Rattle.walk_fill.specs.declared.Batch.{Batch}
 use Rattle.walk_fill.specs.declared.Stop.{Stop}
 use Rattle.walk_fill.specs.declared.Stop.TheVariants.{Full, Paused, End}
 use Rattle.walk_laws.specs.Calls.{Stopped}
 use Rattle.walk_laws.specs.Calls.Stopped.{full, paused, ended}
-use Rattle.walk_laws.proofs.Fills.{fill-moved}
-use Rattle.walk_laws.proofs.Rest.{rest, cost, MovesOn, start-rest}
-use Rattle.walk_laws.proofs.Store.{fill-as-defined}
-use Rattle.walk_laws.proofs.Taken.{Wf, start-wf, start_fine}
-use Rattle.walk_batches.specs.Calls.{startedOf}
-use Rattle.walk_batches.specs.Steps.{walked, goesOn}
+use Rattle.walk_laws.proofs.Fills.{fill_moved}
+use Rattle.walk_laws.proofs.Rest.{rest, cost, MovesOn, start_rest}
+use Rattle.walk_laws.proofs.Store.{fill_as_defined}
+use Rattle.walk_laws.proofs.Taken.{Wf, start_wf, start_fine}
+use Rattle.walk_batches.specs.Calls.{started_of}
+use Rattle.walk_batches.specs.Steps.{walked, goes_on}
 
 -- what a cursor in a walk of t has still to hand out, and the words to read and the ids to hand out in number
 abbrev pub ahead : List ℕ → Cursor → List ℕ
 ahead t c = rest (word (cap t) t) (top (cap t)) c (suc (top (cap t)))
 
-abbrev pub toGo : List ℕ → Cursor → ℕ
-toGo t c = cost (word (cap t) t) (top (cap t)) c (suc (top (cap t))) + length (ahead t c)
+abbrev pub to_go : List ℕ → Cursor → ℕ
+to_go t c = cost (word (cap t) t) (top (cap t)) c (suc (top (cap t))) + length (ahead t c)
 
 -- the walk of t stands at c, with ids from earlier batches in the array
 pub record At (t ids : List ℕ) (c : Cursor) : Type 0 where
@@ -67,21 +67,21 @@ module _ (t : List ℕ) (is : is_store t ≡ true) (small : Words64 t) where
   k = top (cap t)
 
   -- at the start all ids of the walk are ahead
-  pub at-start : {ids : List ℕ} (c : Cursor) → length ids ≡ 64 → c ≡ startedOf t → At t ids c × (ahead t c ≡ walked t)
-  at-start {ids} c l e =
+  pub at_start : {ids : List ℕ} (c : Cursor) → length ids ≡ 64 → c ≡ started_of t → At t ids c × (ahead t c ≡ walked t)
+  at_start {ids} c l e =
       let w = lw k 0 in
-      let q : c ≡ start_at k w = e ∙ ap (λ (x : Step). x.cursor) (started-is (store_is is) (start_at topMost 0)) in
+      let q : c ≡ start_at k w = e ∙ ap (λ (x : Step). x.cursor) (started_is (store_is is) (start_at top_most 0)) in
       subst (λ (x : Cursor). At t ids x × (ahead t x ≡ walked t)) (sym q) (
-        record { wf = start-wf k w (word_lt (cap t) t small k 0); fine = start_fine k w; long = l },
-        start-rest lw k,
+        record { wf = start_wf k w (word_lt (cap t) t small k 0); fine = start_fine k w; long = l },
+        start_rest lw k,
       )
 
-  pub turn : {b : ℕ} {ids out : List ℕ} {c : Cursor} {r : Batch} → At t ids c → Settled batchPaper (fillOf t c b ids) r out → Turn t b c r out
+  pub turn : {b : ℕ} {ids out : List ℕ} {c : Cursor} {r : Batch} → At t ids c → Settled batch_paper (fill_of t c b ids) r out → Turn t b c r out
   turn {b} {ids} {out} {c} {r} g a =
-      let f = fillFrom lw k 64 b c in
-      let e : fillIn t c b (length ids) ≡ f = ap (fillIn t c b) g.long ∙ fill-as-defined t is small b 64 c g.fine in
-      let z = settles {r' = batch (fillIn t c b (length ids))} a (record { answer = refl; memory = refl }) in
-      let m = fill-moved lw (word_lt (cap t) t small) k 64 b c g.wf in
+      let f = fill_from lw k 64 b c in
+      let e : fill_in t c b (length ids) ≡ f = ap (fill_in t c b) g.long ∙ fill_as_defined t is small b 64 c g.fine in
+      let z = settles {r' = batch (fill_in t c b (length ids))} a (record { answer = refl; memory = refl }) in
+      let m = fill_moved lw (word_lt (cap t) t small) k 64 b c g.wf in
       let n : length f.ids ≤ 64 = inside_of m.kept in
       subst (λ (x : Batch). Turn t b c x out) (sym (z.0 ∙ ap batch e))
       (subst (Turn t b c (batch f)) (sym (z.1 ∙ ap (λ (x : Filled). x.ids ++ drop (length x.ids) ids) e)) (record {
@@ -109,22 +109,22 @@ module _ {t out : List ℕ} {b : ℕ} {c : Cursor} {r : Batch} (u : Turn t b c r
   batch-length = u.counted ∙ sym (ap length u.here)
 
   -- behind the last one nothing is
-  pub nothing-ahead : goesOn r.stop ≡ false → ahead t r.cursor ≡ []
-  nothing-ahead e = go r.stop refl u.kept e
+  pub nothing_ahead : goes_on r.stop ≡ false → ahead t r.cursor ≡ []
+  nothing_ahead e = go r.stop refl u.kept e
     where
-      go : (o : Stop) {n m : ℕ} → r.stop ≡ o → Stopped b 64 o n m → goesOn o ≡ false → ahead t r.cursor ≡ []
+      go : (o : Stop) {n m : ℕ} → r.stop ≡ o → Stopped b 64 o n m → goes_on o ≡ false → ahead t r.cursor ≡ []
       go End q (ended x y) e = u.over q
       go Full q (full x) e = absurd (true≢false e)
       go Paused q (paused x) e = absurd (true≢false e)
 
   -- a batch that is not the last hands out 64 ids, or spends its budget
-  pub less-to-go : 1 ≤ b → goesOn r.stop ≡ true → toGo t r.cursor < toGo t c
-  less-to-go p e =
+  pub less_to_go : 1 ≤ b → goes_on r.stop ≡ true → to_go t r.cursor < to_go t c
+  less_to_go p e =
       let l : length (ahead t c) ≡ length u.ids + length (ahead t r.cursor) = ap length u.moves.ids ∙ length-append u.ids (ahead t r.cursor) in
       let m : 1 ≤ r.reads + length u.ids = go r.stop u.kept e in
       omega (arith, l, m, u.moves.count)
     where
-      go : (o : Stop) {n q : ℕ} → Stopped b 64 o n q → goesOn o ≡ true → 1 ≤ q + n
+      go : (o : Stop) {n q : ℕ} → Stopped b 64 o n q → goes_on o ≡ true → 1 ≤ q + n
       go Full (full x) e = omega arith
       go Paused (paused x) e = omega arith
       go End (ended x y) e = absurd (true≢false (sym e))

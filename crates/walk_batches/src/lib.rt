@@ -1,14 +1,14 @@
 // A walk of one store in batches of 64 ids, for a caller with no cursor: where it starts, and whether it goes on after a batch.
 ghost use Rattle.std.specs.Prelude.{◌≡◌};
-ghost use Rattle.walk_batches.specs.Calls.{startedOf};
-ghost use Rattle.walk_batches.specs.Steps.{goesOn};
+ghost use Rattle.walk_batches.specs.Calls.{started_of};
+ghost use Rattle.walk_batches.specs.Steps.{goes_on};
 
 use walk::Cursor;
 use walk_fill::Stop;
 
 // The cursor of a walk that is started, for a caller with none: zeros where the slice is no store.
 pub fn started(store: &[u64]) -> Cursor
-    ensures { result ≡ startedOf store.now }
+    ensures { result ≡ started_of store.now }
 {
     let none = Cursor {
         masks: [0; store::LAYERS],
@@ -23,7 +23,7 @@ pub const BUDGET: u64 = 18446744073709551615;
 
 // Whether a walk goes on after a fill.
 pub fn goes_on(stop: Stop) -> bool
-    ensures { result ≡ goesOn stop }
+    ensures { result ≡ goes_on stop }
 {
     match stop {
         Stop::Full => true,

@@ -31,18 +31,18 @@ abbrev pub stopped : Stop → ℕ → Cursor → Filled
 stopped e r c = record { ids = []; reads = r; cursor = c; stop = e }
 
 -- by the answer of one call of next: a member goes on, at what is left of the budget
-abbrev pub goOn : Next → ℕ → Cursor → (Cursor → Filled) → Filled
-goOn (Member v) r c on = after (v ∷ []) r (on c)
-goOn Paused r c on = stopped StopPaused r c
-goOn End r c on = stopped StopEnd r c
-goOn (Refused n) r c on = stopped (StopRefused n) r c
+abbrev pub go_on : Next → ℕ → Cursor → (Cursor → Filled) → Filled
+go_on (Member v) r c on = after (v ∷ []) r (on c)
+go_on Paused r c on = stopped StopPaused r c
+go_on End r c on = stopped StopEnd r c
+go_on (Refused n) r c on = stopped (StopRefused n) r c
 
 -- for so many places
-unfoldable pub fillFrom : (ℕ → ℕ → ℕ) → ℕ → ℕ → ℕ → Cursor → Filled
-fillFrom lw t zero b c = stopped Full 0 c
-fillFrom lw t (suc m) b c =
+unfoldable pub fill_from : (ℕ → ℕ → ℕ) → ℕ → ℕ → ℕ → Cursor → Filled
+fill_from lw t zero b c = stopped Full 0 c
+fill_from lw t (suc m) b c =
     let a = next lw t b c in
-    goOn a.answer a.reads a.cursor (fillFrom lw t m (b - a.reads))
+    go_on a.answer a.reads a.cursor (fill_from lw t m (b - a.reads))
 
 -- why no member is at hand
 abbrev pub rest_of : Kind → Stop
@@ -70,35 +70,35 @@ numbers a =
     let c = a.cursor in
     number a.stop ∷ which a.stop ∷ a.count ∷ a.reads ∷ length c.masks ∷ (c.masks ++ c.prefix)
 
-abbrev stopOf : ℕ → ℕ → Stop
-stopOf n zero = StopRefused n
-stopOf n (suc zero) = Full
-stopOf n (suc (suc zero)) = StopPaused
-stopOf n (suc (suc (suc w))) = StopEnd
+abbrev stop_of : ℕ → ℕ → Stop
+stop_of n zero = StopRefused n
+stop_of n (suc zero) = Full
+stop_of n (suc (suc zero)) = StopPaused
+stop_of n (suc (suc (suc w))) = StopEnd
 
-abbrev readBack : List ℕ → Batch
-readBack l = record {
+abbrev read_back : List ℕ → Batch
+read_back l = record {
   cursor = record { masks = take (get_or l 4 0) (drop 5 l); prefix = drop (get_or l 4 0) (drop 5 l) };
   reads = get_or l 3 0;
   count = get_or l 2 0;
-  stop = stopOf (get_or l 0 0) (get_or l 1 0);
+  stop = stop_of (get_or l 0 0) (get_or l 1 0);
 }
 
-abbrev stopBack : (e : Stop) → stopOf (number e) (which e) ≡ e
-stopBack Full = refl
-stopBack StopPaused = refl
-stopBack StopEnd = refl
-stopBack (StopRefused n) = refl
+abbrev stop_back : (e : Stop) → stop_of (number e) (which e) ≡ e
+stop_back Full = refl
+stop_back StopPaused = refl
+stop_back StopEnd = refl
+stop_back (StopRefused n) = refl
 
-abbrev batchBack : (a : Batch) → readBack (numbers a) ≡ a
-batchBack a =
+abbrev batch_back : (a : Batch) → read_back (numbers a) ≡ a
+batch_back a =
     let c = a.cursor in
     ap₂ (λ (d : Cursor) (e : Stop). record { cursor = d; reads = a.reads; count = a.count; stop = e })
     (ap₂ (λ (m p : List ℕ). record { masks = m; prefix = p }) (take-append_seam c.masks c.prefix) (drop-append_seam c.masks c.prefix))
-    (stopBack a.stop)
+    (stop_back a.stop)
 
-abbrev pub batchPaper : Paper Batch
-batchPaper = record { numbers = numbers; answer = readBack; same = batchBack }
+abbrev pub batch_paper : Paper Batch
+batch_paper = record { numbers = numbers; answer = read_back; same = batch_back }
 
 -- ---- the call
 
@@ -107,14 +107,14 @@ batch f = record { cursor = f.cursor; reads = f.reads; count = length f.ids; sto
 
 -- a fill's ids stand first in `out`, and its other places are as they were
 abbrev pub filled : Filled → List ℕ → Outcome (List ℕ)
-filled f out = record { numbers = batchPaper.numbers (batch f); lent = f.ids ++ drop (length f.ids) out }
+filled f out = record { numbers = batch_paper.numbers (batch f); lent = f.ids ++ drop (length f.ids) out }
 
 -- refusals 2, then 7
-unfoldable pub fillIn : List ℕ → Cursor → ℕ → ℕ → Filled
-fillIn s c b m =
+unfoldable pub fill_in : List ℕ → Cursor → ℕ → ℕ → Filled
+fill_in s c b m =
     let N = cap s in
-    let f = fillFrom (word N s) (top N) m b c in
+    let f = fill_from (word N s) (top N) m b c in
     cond (is_store s) (cond (fits (top N) c) f (stopped (StopRefused 7) 0 c)) (stopped (StopRefused 2) 0 c)
 
-abbrev pub fillOf : List ℕ → Cursor → ℕ → List ℕ → Outcome (List ℕ)
-fillOf s c b out = filled (fillIn s c b (length out)) out
+abbrev pub fill_of : List ℕ → Cursor → ℕ → List ℕ → Outcome (List ℕ)
+fill_of s c b out = filled (fill_in s c b (length out)) out

@@ -1,11 +1,11 @@
 // Many members of one store in one call, for callers that keep a cursor: what that many calls of `Cursor::next` do, with the tests made once.
 ghost use Rattle.std.specs.Prelude.{[], ◌∷◌, ◌≡◌, ◌%◌, ◌^◌, length, set};
 ghost use Rattle.util.specs.Outcome.{Settled};
-ghost use Rattle.store.specs.Layout.{topMost};
+ghost use Rattle.store.specs.Layout.{top_most};
 ghost use Rattle.walk.specs.Calls.{Fine};
 ghost use Rattle.walk.specs.Steps.{parts};
 ghost use Rattle.walk.specs.Walk.{kind};
-ghost use Rattle.walk_fill.specs.Fill.{fillFrom, batchPaper, filled, fillOf, rest_of};
+ghost use Rattle.walk_fill.specs.Fill.{fill_from, batch_paper, filled, fill_of, rest_of};
 
 use walk::Cursor;
 
@@ -41,7 +41,7 @@ pub fn made(c: Cursor, reads: u64, count: usize, stop: Stop) -> Batch
 
 // Why no member is at hand.
 pub fn rest(c: Cursor, reads: u64, count: usize) -> Batch
-    ensures { result ≡ record { cursor = c; reads = reads; count = count; stop = rest_of (kind topMost c) } }
+    ensures { result ≡ record { cursor = c; reads = reads; count = count; stop = rest_of (kind top_most c) } }
 {
     if c.wants() {
         return made(c, reads, count, Stop::Paused);
@@ -61,10 +61,10 @@ pub fn put_id(out: &mut [u32], at: usize, place: usize)
 
 // Fill over three layers, where nothing is refused.
 fn fill_in(from: Cursor, l2: &[u64], l1: &[u64], l0: &[u64], budget: u64, out: &mut [u32]) -> Batch
-    requires { Fine topMost from.prefix }
+    requires { Fine top_most from.prefix }
     ensures { let ls = l0.now ∷ l1.now ∷ l2.now ∷ [] in
         let o = out.old in
-        Settled batchPaper (filled (fillFrom (parts ls) topMost (length o) budget from) o) result out.new }
+        Settled batch_paper (filled (fill_from (parts ls) top_most (length o) budget from) o) result out.new }
 {
     let mut c = from;
     let mut spent = 0u64;
@@ -85,7 +85,7 @@ fn fill_in(from: Cursor, l2: &[u64], l1: &[u64], l0: &[u64], budget: u64, out: &
 
 // As many members of a store as `out` holds or the budget allows.
 pub fn fill(c: Cursor, store: &[u64], budget: u64, out: &mut [u32]) -> Batch
-    ensures { Settled batchPaper (fillOf store.now c budget out.old) result out.new }
+    ensures { Settled batch_paper (fill_of store.now c budget out.old) result out.new }
 {
     let n = store::capacity(store);
     let no = c.refusal(n);

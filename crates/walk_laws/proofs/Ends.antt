@@ -11,32 +11,32 @@ use Rattle.walk.specs.declared.Cursor.{Cursor}
 use Rattle.walk_fill.specs.Fill.{Filled}
 use Rattle.walk_fill.specs.declared.Stop.{Stop}
 use Rattle.walk_fill.specs.declared.Stop.TheVariants.{Full, Paused as StopPaused, End as StopEnd, Refused as StopRefused}
-use Rattle.walk_laws.specs.Calls.{Ask, budgetOf, roomOf, Stopped, Some, Run, onward, run_by, fillAt}
+use Rattle.walk_laws.specs.Calls.{Ask, budget_of, room_of, Stopped, Some, Run, onward, run_by, fill_at}
 use Rattle.walk_laws.specs.Calls.Ask.{one}
 use Rattle.walk_laws.specs.Calls.Stopped.{full, paused, ended}
-use Rattle.walk_laws.specs.Under.{allIds, allReads}
+use Rattle.walk_laws.specs.Under.{all_ids, all_reads}
 use Rattle.walk_laws.specs.Walks.{Bounded}
-use Rattle.walk_laws.proofs.Fills.{FillMoved, fill-moved}
-use Rattle.walk_laws.proofs.Rest.{rest, cost, start-rest, start-cost}
-use Rattle.walk_laws.proofs.Taken.{Wf, start-wf}
+use Rattle.walk_laws.proofs.Fills.{FillMoved, fill_moved}
+use Rattle.walk_laws.proofs.Rest.{rest, cost, start_rest, start_cost}
+use Rattle.walk_laws.proofs.Taken.{Wf, start_wf}
 
 module _ (lw : ℕ → ℕ → ℕ) (bounded : Bounded lw) (t : ℕ) where
-  whole_from : (l : List Ask) (c : Cursor) → Wf t c → (run_by (fillAt lw t) c l).over ≡ true
-      → ((run_by (fillAt lw t) c l).members ≡ rest lw t c (suc t)) × ((run_by (fillAt lw t) c l).total ≡ cost lw t c (suc t))
+  whole_from : (l : List Ask) (c : Cursor) → Wf t c → (run_by (fill_at lw t) c l).over ≡ true
+      → ((run_by (fill_at lw t) c l).members ≡ rest lw t c (suc t)) × ((run_by (fill_at lw t) c l).total ≡ cost lw t c (suc t))
   unfolding run_by
   whole_from [] c wf e = absurd (true≢false (sym e))
   whole_from (a ∷ l) c wf e =
-      let f = fillAt lw t a c in
-      let m = fill-moved lw bounded t (roomOf a) (budgetOf a) c wf in
+      let f = fill_at lw t a c in
+      let m = fill_moved lw bounded t (room_of a) (budget_of a) c wf in
       go f.stop refl m (λ h. whole_from l f.cursor m.wf h) e
     where
       f : Filled
-      f = fillAt lw t a c
+      f = fill_at lw t a c
 
       later : Run
-      later = run_by (fillAt lw t) f.cursor l
+      later = run_by (fill_at lw t) f.cursor l
 
-      go : (o : Stop) → f.stop ≡ o → FillMoved lw t (budgetOf a) (roomOf a) c f
+      go : (o : Stop) → f.stop ≡ o → FillMoved lw t (budget_of a) (room_of a) c f
           → (later.over ≡ true → (later.members ≡ rest lw t f.cursor (suc t)) × (later.total ≡ cost lw t f.cursor (suc t)))
           → (onward o f.ids f.reads later).over ≡ true
           → ((onward o f.ids f.reads later).members ≡ rest lw t c (suc t)) × ((onward o f.ids f.reads later).total ≡ cost lw t c (suc t))
@@ -49,37 +49,37 @@ module _ (lw : ℕ → ℕ → ℕ) (bounded : Bounded lw) (t : ℕ) where
       go (StopRefused n) q m ih e = absurd (true≢false (sym e))
 
   -- one that does not end makes what is left less
-  ends-from : (l : List Ask) (c : Cursor) → Wf t c → Some l → cost lw t c (suc t) + length (rest lw t c (suc t)) < length l → (run_by (fillAt lw t) c l).over ≡ true
+  ends_from : (l : List Ask) (c : Cursor) → Wf t c → Some l → cost lw t c (suc t) + length (rest lw t c (suc t)) < length l → (run_by (fill_at lw t) c l).over ≡ true
   unfolding run_by
-  ends-from [] c wf s h = absurd (omega arith)
-  ends-from (a ∷ l) c wf s h =
-      let f = fillAt lw t a c in
-      let m = fill-moved lw bounded t (roomOf a) (budgetOf a) c wf in
+  ends_from [] c wf s h = absurd (omega arith)
+  ends_from (a ∷ l) c wf s h =
+      let f = fill_at lw t a c in
+      let m = fill_moved lw bounded t (room_of a) (budget_of a) c wf in
       let e : length (rest lw t c (suc t)) ≡ length f.ids + length (rest lw t f.cursor (suc t)) = ap length m.moves.ids ∙ length-append f.ids (rest lw t f.cursor (suc t)) in
-      go f.stop m.kept (λ p. ends-from l f.cursor m.wf s.2 (omega (arith, h, e, m.moves.count, p)))
+      go f.stop m.kept (λ p. ends_from l f.cursor m.wf s.2 (omega (arith, h, e, m.moves.count, p)))
     where
       later : Run
-      later = run_by (fillAt lw t) (fillAt lw t a c).cursor l
+      later = run_by (fill_at lw t) (fill_at lw t a c).cursor l
 
-      go : (o : Stop) {n r : ℕ} → Stopped (budgetOf a) (roomOf a) o n r → (1 ≤ r + n → later.over ≡ true) → (onward o (fillAt lw t a c).ids (fillAt lw t a c).reads later).over ≡ true
+      go : (o : Stop) {n r : ℕ} → Stopped (budget_of a) (room_of a) o n r → (1 ≤ r + n → later.over ≡ true) → (onward o (fill_at lw t a c).ids (fill_at lw t a c).reads later).over ≡ true
       go Full (full x) ih = ih (omega (arith, s.1))
       go StopPaused (paused x) ih = ih (omega (arith, s.0))
       go StopEnd (ended x y) ih = refl
 
   -- THE WALK. Whatever the calls, next and fill mixed, and their budgets and places: a walk that ends has handed out exactly the ids below
   -- the top word, in the definition's order, and with the start's read it has reported the definition's count.
-  pub walk-all : (l : List Ask) → (run_by (fillAt lw t) (start_at t (lw t 0)) l).over ≡ true
-      → ((run_by (fillAt lw t) (start_at t (lw t 0)) l).members ≡ allIds lw t) × (1 + (run_by (fillAt lw t) (start_at t (lw t 0)) l).total ≡ allReads lw t)
-  walk-all l e =
-      let r = whole_from l (start_at t (lw t 0)) (start-wf t (lw t 0) (bounded t 0)) e in
-      (r.0 ∙ start-rest lw t, ap (λ (x : ℕ). 1 + x) r.1 ∙ start-cost lw t)
+  pub walk_all : (l : List Ask) → (run_by (fill_at lw t) (start_at t (lw t 0)) l).over ≡ true
+      → ((run_by (fill_at lw t) (start_at t (lw t 0)) l).members ≡ all_ids lw t) × (1 + (run_by (fill_at lw t) (start_at t (lw t 0)) l).total ≡ all_reads lw t)
+  walk_all l e =
+      let r = whole_from l (start_at t (lw t 0)) (start_wf t (lw t 0) (bounded t 0)) e in
+      (r.0 ∙ start_rest lw t, ap (λ (x : ℕ). 1 + x) r.1 ∙ start_cost lw t)
 
   -- It ends once its calls, each with a budget and places of one or more, are as many as its members and its reads together.
-  pub run_ends : (l : List Ask) → Some l → allReads lw t + length (allIds lw t) ≤ length l → (run_by (fillAt lw t) (start_at t (lw t 0)) l).over ≡ true
+  pub run_ends : (l : List Ask) → Some l → all_reads lw t + length (all_ids lw t) ≤ length l → (run_by (fill_at lw t) (start_at t (lw t 0)) l).over ≡ true
   run_ends l s h =
-      ends-from l (start_at t (lw t 0)) (start-wf t (lw t 0) (bounded t 0)) s (omega (arith, start-cost lw t, ap length (start-rest lw t)))
+      ends_from l (start_at t (lw t 0)) (start_wf t (lw t 0) (bounded t 0)) s (omega (arith, start_cost lw t, ap length (start_rest lw t)))
 
 -- such calls there are, of any number
-pub some-asks : (n : ℕ) → Some (replicate n (one 1))
-some-asks zero = tt
-some-asks (suc n) = (omega arith, omega arith, some-asks n)
+pub some_asks : (n : ℕ) → Some (replicate n (one 1))
+some_asks zero = tt
+some_asks (suc n) = (omega arith, omega arith, some_asks n)

@@ -3,7 +3,7 @@ use mathlib.Core.Path.{◌≡◌, refl}
 use Prim.Native.Nat.{ℕ, zero, suc, ◌+◌, ◌*◌, ◌≤◌, ◌<◌}
 use native.Mathlib.Omega.{arith}
 use Rattle.util.specs.Word.{bit, keep, places, bits}
-use Rattle.walk_laws.specs.Under.{summed, readsUnder, allReads}
+use Rattle.walk_laws.specs.Under.{summed, reads_under, all_reads}
 use Rattle.walk_laws.specs.Walks.{InsideOf}
 
 -- a sum grows with its places and its summands
@@ -20,14 +20,14 @@ sum-le f g p q le b (suc n) sub = go (p b) (q b) refl refl (sum-le f g p q le (s
     go (suc x) (suc y) u v ih = omega (arith, ih, le b)
 
 module _ (lw lv : ℕ → ℕ → ℕ) (t : ℕ) (sub : InsideOf lw lv t) where
-  reads-below : (k p : ℕ) → k ≤ suc t → readsUnder lw k p ≤ readsUnder lv k p
-  unfolding readsUnder bits
-  reads-below zero p h = omega arith
-  reads-below (suc k) p h =
-      let i : summed (λ b. readsUnder lw k (p * 64 + b)) (places (bit (lw k p)) 0 64) ≤ summed (λ b. readsUnder lv k (p * 64 + b)) (places (bit (lv k p)) 0 64) =
-      sum-le (λ b. readsUnder lw k (p * 64 + b)) (λ b. readsUnder lv k (p * 64 + b)) (bit (lw k p)) (bit (lv k p))
-      (λ b. reads-below k (p * 64 + b) (omega arith)) 0 64 (λ b l u. sub k p b (omega arith) (omega arith)) in
+  reads_below : (k p : ℕ) → k ≤ suc t → reads_under lw k p ≤ reads_under lv k p
+  unfolding reads_under bits
+  reads_below zero p h = omega arith
+  reads_below (suc k) p h =
+      let i : summed (λ b. reads_under lw k (p * 64 + b)) (places (bit (lw k p)) 0 64) ≤ summed (λ b. reads_under lv k (p * 64 + b)) (places (bit (lv k p)) 0 64) =
+      sum-le (λ b. reads_under lw k (p * 64 + b)) (λ b. reads_under lv k (p * 64 + b)) (bit (lw k p)) (bit (lv k p))
+      (λ b. reads_below k (p * 64 + b) (omega arith)) 0 64 (λ b l u. sub k p b (omega arith) (omega arith)) in
       omega (arith, i)
 
-  pub reads-le : allReads lw t ≤ allReads lv t
-  reads-le = reads-below (suc t) 0 (omega arith)
+  pub reads_le : all_reads lw t ≤ all_reads lv t
+  reads_le = reads_below (suc t) 0 (omega arith)

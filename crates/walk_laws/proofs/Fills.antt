@@ -13,15 +13,15 @@ use Rattle.walk.specs.declared.Cursor.{Cursor}
 use Rattle.walk.specs.declared.Next.{Next}
 use Rattle.walk.specs.declared.Next.TheVariants.{Member, Paused, End, Refused}
 use Rattle.walk.specs.declared.Step.{Step}
-use Rattle.walk_fill.specs.Fill.{Filled, goOn, fillFrom}
+use Rattle.walk_fill.specs.Fill.{Filled, go_on, fill_from}
 use Rattle.walk_fill.specs.declared.Stop.{Stop}
 use Rattle.walk_fill.specs.declared.Stop.TheVariants.{Full, Paused as StopPaused, End as StopEnd, Refused as StopRefused}
 use Rattle.walk_laws.specs.Calls.{Stopped, Keeps}
 use Rattle.walk_laws.specs.Calls.Stopped.{full, paused, ended}
 use Rattle.walk_laws.specs.Walks.{Bounded, KeptBudget}
 use Rattle.walk_laws.specs.Walks.KeptBudget.{member, paused as pausedAt, ended as endedAt}
-use Rattle.walk_laws.proofs.Prefixes.{next-fine}
-use Rattle.walk_laws.proofs.Rest.{rest, cost, MovesOn, gone, MovedOn, moved-next}
+use Rattle.walk_laws.proofs.Prefixes.{next_fine}
+use Rattle.walk_laws.proofs.Rest.{rest, cost, MovesOn, gone, MovedOn, moved_next}
 use Rattle.walk_laws.proofs.Taken.{Wf}
 
 -- ---- one next
@@ -39,19 +39,19 @@ module _ (lw : ℕ → ℕ → ℕ) (t : ℕ) where
   kept_more b r o (endedAt h) = endedAt {r = 1 + r} (omega arith)
 
   -- A CALL never reads past its budget, a paused one has spent it exactly, and none refuses.
-  pub next-kept : (b : ℕ) (c : Cursor) → KeptBudget b (next lw t b c).answer (next lw t b c).reads
+  pub next_kept : (b : ℕ) (c : Cursor) → KeptBudget b (next lw t b c).answer (next lw t b c).reads
   unfolding next
-  next-kept zero c = kept_by 0 c (λ j. before c) (λ j. pausedAt) (kind t c)
-  next-kept (suc b) c = kept_by (suc b) c (λ j. more 1 (next lw t b (descend lw t j c)))
-      (λ j. let a = next lw t b (descend lw t j c) in kept_more b a.reads a.answer (next-kept b (descend lw t j c))) (kind t c)
+  next_kept zero c = kept_by 0 c (λ j. before c) (λ j. pausedAt) (kind t c)
+  next_kept (suc b) c = kept_by (suc b) c (λ j. more 1 (next lw t b (descend lw t j c)))
+      (λ j. let a = next lw t b (descend lw t j c) in kept_more b a.reads a.answer (next_kept b (descend lw t j c))) (kind t c)
 
 -- ---- one fill
 
-end-full : ◌≡◌ {A = Stop} Full StopEnd → ⊥
-end-full e = let z : ◌≡◌ {A = ℕ} 0 1 = cc in omega arith
+end_full : ◌≡◌ {A = Stop} Full StopEnd → ⊥
+end_full e = let z : ◌≡◌ {A = ℕ} 0 1 = cc in omega arith
 
-end-paused : ◌≡◌ {A = Stop} StopPaused StopEnd → ⊥
-end-paused e = let z : ◌≡◌ {A = ℕ} 0 1 = cc in omega arith
+end_paused : ◌≡◌ {A = Stop} StopPaused StopEnd → ⊥
+end_paused e = let z : ◌≡◌ {A = ℕ} 0 1 = cc in omega arith
 
 end_refused : (n : ℕ) → ◌≡◌ {A = Stop} (StopRefused n) StopEnd → ⊥
 end_refused n e = let z : ◌≡◌ {A = ℕ} 0 1 = cc in omega arith
@@ -63,7 +63,7 @@ stopped_more b d m r h is StopPaused n q (paused g) = let z : b ≡ r + d = omeg
 stopped_more b d m r h is StopEnd n q (ended g k) = ended {n = suc n} {r = r + q} (omega arith) (omega arith)
 
 stopped_by : (b m : ℕ) (o : Next) (r : ℕ) → KeptBudget b o r → (c : Cursor) (on : Cursor → Filled) → Keeps (b - r) m (on c)
-    → Keeps b (suc m) (goOn o r c on)
+    → Keeps b (suc m) (go_on o r c on)
 stopped_by b m (Member v) r (member h) c on s = stopped_more b (b - r) m r h refl (on c).stop (length (on c).ids) (on c).reads s
 stopped_by b m Paused r pausedAt c on s = paused {n = 0} (omega arith)
 stopped_by b m End r (endedAt h) c on s = ended {n = 0} (omega arith) h
@@ -78,9 +78,9 @@ module _ (lw : ℕ → ℕ → ℕ) (t : ℕ) where
     pub over : f.stop ≡ StopEnd → (rest lw t f.cursor (suc t) ≡ []) × (cost lw t f.cursor (suc t) ≡ 0)
 
 module _ (lw : ℕ → ℕ → ℕ) (bounded : Bounded lw) (t : ℕ) where
-  by_answer : (a : Step) (c : Cursor) → MovedOn lw t c a → (b m : ℕ) (f : Cursor → Filled) → Keeps b (suc m) (goOn a.answer a.reads a.cursor f)
+  by_answer : (a : Step) (c : Cursor) → MovedOn lw t c a → (b m : ℕ) (f : Cursor → Filled) → Keeps b (suc m) (go_on a.answer a.reads a.cursor f)
       → (Fine t c.prefix → Fine t a.cursor.prefix) → FillMoved lw t (b - a.reads) m a.cursor (f a.cursor)
-      → FillMoved lw t b (suc m) c (goOn a.answer a.reads a.cursor f)
+      → FillMoved lw t b (suc m) c (go_on a.answer a.reads a.cursor f)
   by_answer a c mv b m f kept fine later = go a.answer refl kept
     where
       d : Cursor
@@ -89,8 +89,8 @@ module _ (lw : ℕ → ℕ → ℕ) (bounded : Bounded lw) (t : ℕ) where
       ids : (o : Next) → a.answer ≡ o → rest lw t c (suc t) ≡ gone o ++ rest lw t d (suc t)
       ids o q = mv.moves.ids ∙ ap (λ (x : Next). gone x ++ rest lw t d (suc t)) q
 
-      go : (o : Next) → a.answer ≡ o → Keeps b (suc m) (goOn o a.reads d f)
-          → FillMoved lw t b (suc m) c (goOn o a.reads d f)
+      go : (o : Next) → a.answer ≡ o → Keeps b (suc m) (go_on o a.reads d f)
+          → FillMoved lw t b (suc m) c (go_on o a.reads d f)
       go (Member v) q k = record {
         moves = record {
           ids = ids (Member v) q ∙ ap (λ (x : List ℕ). v ∷ x) later.moves.ids;
@@ -101,24 +101,24 @@ module _ (lw : ℕ → ℕ → ℕ) (bounded : Bounded lw) (t : ℕ) where
         kept = k;
         over = later.over;
       }
-      go Paused q k = record { moves = record { ids = ids Paused q; count = mv.moves.count }; wf = mv.wf; fine = fine; kept = k; over = λ e. absurd (end-paused e) }
+      go Paused q k = record { moves = record { ids = ids Paused q; count = mv.moves.count }; wf = mv.wf; fine = fine; kept = k; over = λ e. absurd (end_paused e) }
       go End q k = record { moves = record { ids = ids End q; count = mv.moves.count }; wf = mv.wf; fine = fine; kept = k; over = λ e. mv.ended q }
       go (Refused n) q k = record { moves = record { ids = ids (Refused n) q; count = mv.moves.count }; wf = mv.wf; fine = fine; kept = k; over = λ e. absurd (end_refused n e) }
 
   -- ONE FILL moves what is left to hand out and to read by its ids and its reads, never reads past its budget, and none refuses.
-  pub fill-moved : (m b : ℕ) (c : Cursor) → Wf t c → FillMoved lw t b m c (fillFrom lw t m b c)
-  unfolding fillFrom
-  fill-moved zero b c wf = record {
+  pub fill_moved : (m b : ℕ) (c : Cursor) → Wf t c → FillMoved lw t b m c (fill_from lw t m b c)
+  unfolding fill_from
+  fill_moved zero b c wf = record {
     moves = record { ids = refl; count = omega arith };
     wf = wf;
     fine = λ h. h;
     kept = full {r = 0} (omega arith);
-    over = λ e. absurd (end-full e);
+    over = λ e. absurd (end_full e);
   }
-  fill-moved (suc m) b c wf =
+  fill_moved (suc m) b c wf =
       let a = next lw t b c in
-      let mv = moved-next lw bounded t b c wf in
-      let later = fill-moved m (b - a.reads) a.cursor mv.wf in
-      by_answer a c mv b m (fillFrom lw t m (b - a.reads))
-      (stopped_by b m a.answer a.reads (next-kept lw t b c) a.cursor (fillFrom lw t m (b - a.reads)) later.kept)
-      (next-fine lw bounded t b c wf) later
+      let mv = moved_next lw bounded t b c wf in
+      let later = fill_moved m (b - a.reads) a.cursor mv.wf in
+      by_answer a c mv b m (fill_from lw t m (b - a.reads))
+      (stopped_by b m a.answer a.reads (next_kept lw t b c) a.cursor (fill_from lw t m (b - a.reads)) later.kept)
+      (next_fine lw bounded t b c wf) later

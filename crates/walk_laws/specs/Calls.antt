@@ -5,7 +5,7 @@ use Rattle.walk.specs.Calls.{Fine}
 use Rattle.walk.specs.Walk.{next}
 use Rattle.walk.specs.declared.Cursor.{Cursor}
 use Rattle.walk.specs.declared.Step.{Step}
-use Rattle.walk_fill.specs.Fill.{Filled, stopped, goOn, fillFrom}
+use Rattle.walk_fill.specs.Fill.{Filled, stopped, go_on, fill_from}
 use Rattle.walk_fill.specs.declared.Stop.{Stop}
 use Rattle.walk_fill.specs.declared.Stop.TheVariants.{Full, Paused, End, Refused}
 
@@ -16,18 +16,18 @@ pub data Ask : Type 0 where
   one : ℕ → Ask
   many : ℕ → ℕ → Ask
 
-abbrev pub budgetOf : Ask → ℕ
-budgetOf (one b) = b
-budgetOf (many b m) = b
+abbrev pub budget_of : Ask → ℕ
+budget_of (one b) = b
+budget_of (many b m) = b
 
 -- how many members it may hand out
-abbrev pub roomOf : Ask → ℕ
-roomOf (one b) = 1
-roomOf (many b m) = m
+abbrev pub room_of : Ask → ℕ
+room_of (one b) = 1
+room_of (many b m) = m
 
 -- an answer of next, told as that of a fill of one place: with a member it is full
 abbrev pub alone : Step → Filled
-alone a = goOn a.answer a.reads a.cursor (stopped Full 0)
+alone a = go_on a.answer a.reads a.cursor (stopped Full 0)
 
 -- a call, by what next does with a budget, and fill with a budget and a number of places
 abbrev pub asked_of : (ℕ → Cursor → Step) → (ℕ → ℕ → Cursor → Filled) → Ask → Cursor → Filled
@@ -49,7 +49,7 @@ Keeps b m f = Stopped b m f.stop (length f.ids) f.reads
 -- every budget and every number of places of a list is one or more
 abbrev pub Some : List Ask → Type 0
 Some [] = Unit {0}
-Some (a ∷ l) = (1 ≤ budgetOf a) × (1 ≤ roomOf a) × Some l
+Some (a ∷ l) = (1 ≤ budget_of a) × (1 ≤ room_of a) × Some l
 
 -- the members handed out, the reads made, and whether the end was answered
 pub record Run : Type 0 where
@@ -72,17 +72,17 @@ run_by call c (a ∷ l) = let f = call a c in onward f.stop f.ids f.reads (run_b
 -- every call of a list stops so
 unfoldable pub AllStopped : (Ask → Cursor → Filled) → List Ask → Cursor → Type 0
 AllStopped call [] c = Unit {0}
-AllStopped call (a ∷ l) c = let f = call a c in Keeps (budgetOf a) (roomOf a) f × AllStopped call l f.cursor
+AllStopped call (a ∷ l) c = let f = call a c in Keeps (budget_of a) (room_of a) f × AllStopped call l f.cursor
 
 -- ---- over any layer words, with t the top layer
 
 -- a fill for what a call is asked for: a next is one of a single place
-abbrev pub fillAt : (ℕ → ℕ → ℕ) → ℕ → Ask → Cursor → Filled
-fillAt lw t a c = fillFrom lw t (roomOf a) (budgetOf a) c
+abbrev pub fill_at : (ℕ → ℕ → ℕ) → ℕ → Ask → Cursor → Filled
+fill_at lw t a c = fill_from lw t (room_of a) (budget_of a) c
 
 -- calls that are next, and fill, over the layer words at every cursor whose prefixes fit
 abbrev pub Nexts : (ℕ → ℕ → ℕ) → ℕ → (ℕ → Cursor → Step) → Type 0
 Nexts lw t call = (b : ℕ) (c : Cursor) → Fine t c.prefix → call b c ≡ next lw t b c
 
 abbrev pub Fills : (ℕ → ℕ → ℕ) → ℕ → (ℕ → ℕ → Cursor → Filled) → Type 0
-Fills lw t call = (b m : ℕ) (c : Cursor) → Fine t c.prefix → call b m c ≡ fillFrom lw t m b c
+Fills lw t call = (b m : ℕ) (c : Cursor) → Fine t c.prefix → call b m c ≡ fill_from lw t m b c

@@ -20,13 +20,13 @@ module _ (lw : ℕ → ℕ → ℕ) where
 
   -- "The definition's count: the top word, and each word whose summary bit is set in a word that is read." The words read below place p
   -- of layer k: the word it stands for, and those below each of its set bits.
-  unfoldable pub readsUnder : ℕ → ℕ → ℕ
-  readsUnder zero p = 0
-  readsUnder (suc k) p = 1 + summed (λ b. readsUnder k (p * 64 + b)) (bits (lw k p))
+  unfoldable pub reads_under : ℕ → ℕ → ℕ
+  reads_under zero p = 0
+  reads_under (suc k) p = 1 + summed (λ b. reads_under k (p * 64 + b)) (bits (lw k p))
 
   -- all of a walk, with t the top layer
-  abbrev pub allIds : ℕ → List ℕ
-  allIds t = under (suc t) 0
+  abbrev pub all_ids : ℕ → List ℕ
+  all_ids t = under (suc t) 0
 
-  abbrev pub allReads : ℕ → ℕ
-  allReads t = readsUnder (suc t) 0
+  abbrev pub all_reads : ℕ → ℕ
+  all_reads t = reads_under (suc t) 0

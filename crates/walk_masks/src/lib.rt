@@ -2,9 +2,9 @@
 // what a walk refuses.
 ghost use Rattle.std.specs.Prelude.{◌&&◌, [], ◌∷◌, ◌≡◌, suc, ◌+◌, ◌*◌, ◌%◌, ◌<◌, eqb, ltb, get_or, set};
 ghost use Rattle.std.specs.Int.Count.{count_trailing_zeros};
-ghost use Rattle.store.specs.Layout.{top, topMost};
-ghost use Rattle.walk_masks.specs.Masks.{lowFrom, between, prefixAt, lowestBit, bare};
-ghost use Rattle.walk_masks.specs.Prefixes.{prefixesFit, refusalOf};
+ghost use Rattle.store.specs.Layout.{top, top_most};
+ghost use Rattle.walk_masks.specs.Masks.{low_from, between, prefix_at, lowest_bit, bare};
+ghost use Rattle.walk_masks.specs.Prefixes.{prefixes_fit, refusal_of};
 
 // The prefix of layer k is below 64 ^ (TOP + 1 - k).
 const BOUND2: u64 = 64 * 64;
@@ -15,7 +15,7 @@ const BOUND0: u64 = 64 * BOUND1;
 
 // Whether the lowest layer with a mask is one above layer 0.
 pub fn wants(masks: [u64; store::LAYERS]) -> bool
-    ensures { result ≡ between 0 (lowFrom masks 0 (suc topMost)) (suc topMost) }
+    ensures { result ≡ between 0 (low_from masks 0 (suc top_most)) (suc top_most) }
 {
     if masks[0] != 0 {
         return false;
@@ -38,8 +38,8 @@ fn behind(p: u32, m: u64) -> usize
 
 // Where the lowest bit of layer k's mask stands in its layer; the top layer has no prefix. Layers count modulo their number.
 pub fn place(masks: [u64; store::LAYERS], prefix: [u32; store::TOP], k: usize) -> usize
-    ensures { let j = k % suc topMost in
-        (result ≡ prefixAt topMost prefix j + lowestBit masks j) × (0 < get_or masks j 0 → lowestBit masks j < 64) }
+    ensures { let j = k % suc top_most in
+        (result ≡ prefix_at top_most prefix j + lowest_bit masks j) × (0 < get_or masks j 0 → lowest_bit masks j < 64) }
 {
     let j = k % store::LAYERS;
     if j == store::TOP {
@@ -50,7 +50,7 @@ pub fn place(masks: [u64; store::LAYERS], prefix: [u32; store::TOP], k: usize) -
 
 // The masks without the lowest bit of layer k's. Layers count modulo their number.
 pub fn without(masks: [u64; store::LAYERS], k: usize) -> [u64; store::LAYERS]
-    ensures { result ≡ bare masks (k % suc topMost) }
+    ensures { result ≡ bare masks (k % suc top_most) }
 {
     let at = k % store::LAYERS;
     let mut r = masks;
@@ -60,7 +60,7 @@ pub fn without(masks: [u64; store::LAYERS], k: usize) -> [u64; store::LAYERS]
 
 // The same for the layer above layer j, with the word below that bit as layer j's mask. Layers count modulo the top one.
 pub fn taken(masks: [u64; store::LAYERS], j: usize, word: u64) -> [u64; store::LAYERS]
-    ensures { result ≡ set (bare masks (suc (j % topMost))) (j % topMost) word }
+    ensures { result ≡ set (bare masks (suc (j % top_most))) (j % top_most) word }
 {
     let low = j % store::TOP;
     let mut r = without(masks, low + 1);
@@ -70,7 +70,7 @@ pub fn taken(masks: [u64; store::LAYERS], j: usize, word: u64) -> [u64; store::L
 
 // The prefixes with layer j's below place q of the layer above it, q counted modulo 2 ^ 26. Layers count modulo the top one.
 pub fn under(prefix: [u32; store::TOP], j: usize, q: usize) -> [u32; store::TOP]
-    ensures { result ≡ set prefix (j % topMost) (q % 67108864 * 64) }
+    ensures { result ≡ set prefix (j % top_most) (q % 67108864 * 64) }
 {
     let low = j % store::TOP;
     let mut r = prefix;
@@ -90,7 +90,7 @@ fn is_prefix(p: u64, bound: u64) -> bool
 
 // Whether three numbers are the prefixes of a cursor, of the layers 0, 1 and 2.
 pub fn are_prefixes(p0: u64, p1: u64, p2: u64) -> bool
-    ensures { result ≡ prefixesFit topMost (p0 ∷ p1 ∷ p2 ∷ []) topMost }
+    ensures { result ≡ prefixes_fit top_most (p0 ∷ p1 ∷ p2 ∷ []) top_most }
 {
     if !is_prefix(p0, BOUND0) {
         return false;
@@ -103,7 +103,7 @@ pub fn are_prefixes(p0: u64, p1: u64, p2: u64) -> bool
 
 // The refusal of a walk on a store of n ids, none being no store, by its cursor's prefixes; or 0.
 pub fn refusal(n: usize, p: [u32; store::TOP]) -> u32
-    ensures { result ≡ refusalOf n (prefixesFit (top n) p (top n)) }
+    ensures { result ≡ refusal_of n (prefixes_fit (top n) p (top n)) }
 {
     if n == 0 {
         return 2;

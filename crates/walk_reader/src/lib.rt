@@ -1,7 +1,7 @@
 // The walk of one store as the Rust's `BitIter`: a reader that holds the lent store beside its cursor.
 ghost use Rattle.std.specs.Prelude.{◌≡◌};
-ghost use Rattle.walk.specs.Calls.{nextIn};
-ghost use Rattle.walk_batches.specs.Calls.{startedOf};
+ghost use Rattle.walk.specs.Calls.{next_in};
+ghost use Rattle.walk_batches.specs.Calls.{started_of};
 ghost use Rattle.walk_reader.specs.Readers.{told};
 
 use walk::{Cursor, Next};
@@ -22,7 +22,7 @@ pub struct Told {
 
 // A reader that is started: the store, and the cursor that `start` leaves of a zero cursor.
 pub fn iter<'a>(store: &'a [u64]) -> BitIter<'a>
-    ensures { (result.store ≡ store.entry) × (result.cursor ≡ startedOf store.now) }
+    ensures { (result.store ≡ store.entry) × (result.cursor ≡ started_of store.now) }
 {
     let cursor = walk_batches::started(store);
     BitIter { store, cursor }
@@ -31,8 +31,8 @@ pub fn iter<'a>(store: &'a [u64]) -> BitIter<'a>
 // One step of the walk, at a budget of word reads: the reader keeps the cursor.
 pub fn next<'s, 'a>(it: &'s mut BitIter<'a>, budget: u64) -> Told
     ensures { (it.new.store ≡ it.old.store)
-        × (it.new.cursor ≡ (nextIn it.old.store.now it.old.cursor budget).cursor)
-        × (result ≡ told (nextIn it.old.store.now it.old.cursor budget)) }
+        × (it.new.cursor ≡ (next_in it.old.store.now it.old.cursor budget).cursor)
+        × (result ≡ told (next_in it.old.store.now it.old.cursor budget)) }
 {
     let c = it.cursor;
     let s = c.next(it.store, budget);
@@ -46,7 +46,7 @@ pub fn next<'s, 'a>(it: &'s mut BitIter<'a>, budget: u64) -> Told
 
 // The first step of a walk of a store: a reader is made, and one step is taken of it.
 pub fn first(store: &[u64], budget: u64) -> Told
-    ensures { result ≡ told (nextIn store.now (startedOf store.now) budget) }
+    ensures { result ≡ told (next_in store.now (started_of store.now) budget) }
 {
     let mut it = iter(store);
     next(&mut it, budget)

@@ -10,12 +10,12 @@ use lib.Count.{ones, ones-le}
 use lib.Dec.{T, ltb, leb, lit<, ltb→lt, leb→le}
 use lib.Pow.{shr_lt}
 use Rattle.util.specs.Outcome.{Settled}
-use Rattle.average.specs.Average.{paper, averageOf}
-use Rattle.average.specs.Search.{tally, bitsAbove, InRange, HalfStep}
+use Rattle.average.specs.Average.{paper, average_of}
+use Rattle.average.specs.Search.{tally, bits_above, InRange, HalfStep}
 use Rattle.average.specs.declared.Half.TheVariants.{At}
 use Rattle.average.specs.declared.Search.{Search}
-use Rattle.average.proofs.Average.{found, none_found, above-none, above-all}
-use Rattle.average.proofs.Tally.{lower, twice, byOneMask, tally-bits, tally-whole, mask-widens, field_lt}
+use Rattle.average.proofs.Average.{found, none_found, above_none, above_all}
+use Rattle.average.proofs.Tally.{lower, twice, by_one_mask, tally-bits, tally_whole, mask_widens, field_lt}
 use Rattle.average.proofs.average_ones.Statement.{statement}
 use Rattle.average.proofs.average_ones.Tie as tie
 
@@ -28,18 +28,18 @@ abbrev whole : ℕ → Search
 whole e = record { result = 64; target = counted e / 2; cur = e / 4294967296 }
 
 module _ (n e : ℕ) (word : n < 2 ^ 64) (is : e ≡ tally 32 2 n) where
-  count-is : counted e ≡ ones n
+  count_is : counted e ≡ ones n
   unfolding lower twice
-  count-is = ap (byOneMask 32 1) is ∙ mask-widens 32 (lit< tt) 1 n ∙ tally-whole 64 n word
+  count_is = ap (by_one_mask 32 1) is ∙ mask_widens 32 (lit< tt) 1 n ∙ tally_whole 64 n word
 
-  cur-is : e / 2 ^ 32 ≡ bitsAbove n 32
+  cur_is : e / 2 ^ 32 ≡ bits_above n 32
   unfolding tally
-  cur-is =
+  cur_is =
       ap (λ (x : ℕ). x / 2 ^ 32) is ∙ digits_div (tally 32 1 (n / 2 ^ 32)) (field_lt 32 n)
-      ∙ tally-whole 32 (n / 2 ^ 32) (shr_lt 32 32 word)
+      ∙ tally_whole 32 (n / 2 ^ 32) (shr_lt 32 32 word)
 
   small : e < 2 ^ 63
-  small = omega (arith, cur-is, ones-le 32 (n / 2 ^ 32) (shr_lt 32 32 word))
+  small = omega (arith, cur_is, ones-le 32 (n / 2 ^ 32) (shr_lt 32 32 word))
 
   start : 1 < counted e → InRange n (ones n / 2) 32 (whole e)
   start h =
@@ -47,10 +47,10 @@ module _ (n e : ℕ) (word : n < 2 ^ 64) (is : e ≡ tally 32 2 n) where
         field = 0;
         aligned = refl;
         inside = omega arith;
-        target_is = omega (arith, above-none n word, count-is);
-        target-pos = omega arith;
-        cur-is = omega (arith, above-none n word, cur-is);
-        reach = omega (arith, above-all n word);
+        target_is = omega (arith, above_none n word, count_is);
+        target_pos = omega arith;
+        cur_is = omega (arith, above_none n word, cur_is);
+        reach = omega (arith, above_all n word);
       }
 
 -- what `descend` asks, from where the search stands
@@ -62,7 +62,7 @@ step n t k m q w i s a e g l =
       some = ltb→lt 0 k s;
       fields = m;
       whole = a;
-      child-is = i;
+      child_is = i;
       bits = q;
       mask_is = e;
       wide = ltb→lt k (2 ^ q) g;
@@ -82,7 +82,7 @@ returns c =
     let n : ℕ = c.before.before.args.n in
     let e = c.before.count-fields in
     let word : n < 2 ^ 64 = c.before.before.ranges.n.fits in
-    none_found n word (omega (arith, count-is n e.result.e word e.ensures.e-is, c.if1.true))
+    none_found n word (omega (arith, count_is n e.result.e word e.ensures.e-is, c.if1.true))
 
 -- the steps, by the places at which they are made; `Word c` is the word
 abbrev Word : tie.Else1 → ℕ
@@ -133,7 +133,7 @@ last c = c.descend5.ensures _ _ (s1 c.before)
 
 -- a place of which the bits above are too few and those from it on enough is the answer
 ended : (c : tie.After-descend5) (p : ℕ) → let d = c.before.before.before.before.before in
-    p < c.descend5.result.result → bitsAbove (Word d) (suc p) < Goal d → Goal d ≤ bitsAbove (Word d) p → Settled paper (averageOf (Word d)) (At p) tt
+    p < c.descend5.result.result → bits_above (Word d) (suc p) < Goal d → Goal d ≤ bits_above (Word d) p → Settled paper (average_of (Word d)) (At p) tt
 ended c p l lo hi =
     let d = c.before.before.before.before.before in
     found (Word d) d.before.before.ranges.n.fits p (omega (arith, (last c).inside)) lo hi
@@ -151,7 +151,7 @@ returns-2 c =
     let r : ℕ = d.descend5.result.result in
     let a = last d in
     let e : suc (r - 2) ≡ r - 1 = omega (arith, a.aligned) in
-    ended d (r - 2) (omega (arith, a.aligned)) (omega (arith, ap (bitsAbove n) e, a.cur-is, a.target_is, c.before.if2.true)) a.reach
+    ended d (r - 2) (omega (arith, a.aligned)) (omega (arith, ap (bits_above n) e, a.cur-is, a.target_is, c.before.if2.true)) a.reach
 
 returns-3 : tie.Need-returns-3
 returns-3 c =
@@ -160,7 +160,7 @@ returns-3 c =
     let r : ℕ = d.descend5.result.result in
     let a = last d in
     let e : suc (r - 1) ≡ r = omega (arith, a.aligned) in
-    ended d (r - 1) (omega (arith, a.aligned)) (omega (arith, ap (bitsAbove n) e, a.target_is, a.target-pos)) (omega (arith, a.cur-is, a.target_is, c.before.if2.false))
+    ended d (r - 1) (omega (arith, a.aligned)) (omega (arith, ap (bits_above n) e, a.target_is, a.target-pos)) (omega (arith, a.cur-is, a.target_is, c.before.if2.false))
 
 pub average-ones-spec : {M : Type 1} → statement M
 average-ones-spec =

@@ -8,7 +8,7 @@ use lib.Bits.{bit_and, and_le_l, and_le_r}
 use lib.Dec.{lit<}
 use lib.Pow.{shr_le}
 use Rattle.average.specs.Search.{tally}
-use Rattle.average.proofs.Tally.{lower, twice, byMinus, byMasks, byOneMask, tally-bits, minus-widens, masks-widen, mask-widens}
+use Rattle.average.proofs.Tally.{lower, twice, by_minus, by_masks, by_one_mask, tally-bits, minus_widens, masks_widen, mask_widens}
 use Rattle.average.proofs.count_fields.Statement.{statement}
 use Rattle.average.proofs.count_fields.Tie as tie
 
@@ -28,25 +28,25 @@ abbrev E : ℕ → ℕ
 E n = bit_and (D n + D n / 65536) 0x0000_ffff_0000_ffff
 
 module _ (n : ℕ) (word : n < 2 ^ 64) where
-  a-is : A n ≡ tally 2 32 n
+  a_is : A n ≡ tally 2 32 n
   unfolding lower twice
-  a-is = ap (byMinus 32) (sym (tally-bits 64 n word)) ∙ minus-widens 32 n
+  a_is = ap (by_minus 32) (sym (tally-bits 64 n word)) ∙ minus_widens 32 n
 
-  b-is : B n ≡ tally 4 16 n
+  b_is : B n ≡ tally 4 16 n
   unfolding lower twice
-  b-is = ap (byMasks 2 16) a-is ∙ masks-widen 2 16 n
+  b_is = ap (by_masks 2 16) a_is ∙ masks_widen 2 16 n
 
-  c-is : C n ≡ tally 8 8 n
+  c_is : C n ≡ tally 8 8 n
   unfolding lower twice
-  c-is = ap (byOneMask 4 8) b-is ∙ mask-widens 4 (lit< tt) 8 n
+  c_is = ap (by_one_mask 4 8) b_is ∙ mask_widens 4 (lit< tt) 8 n
 
-  d-is : D n ≡ tally 16 4 n
+  d_is : D n ≡ tally 16 4 n
   unfolding lower twice
-  d-is = ap (byOneMask 8 4) c-is ∙ mask-widens 8 (lit< tt) 4 n
+  d_is = ap (by_one_mask 8 4) c_is ∙ mask_widens 8 (lit< tt) 4 n
 
-  e-is : E n ≡ tally 32 2 n
+  e_is : E n ≡ tally 32 2 n
   unfolding lower twice
-  e-is = ap (byOneMask 16 2) d-is ∙ mask-widens 16 (lit< tt) 2 n
+  e_is = ap (by_one_mask 16 2) d_is ∙ mask_widens 16 (lit< tt) 2 n
 
 sub-a : tie.Need-overflow-sub-a
 sub-a c = le_trans (and_le_l (c.args.n / 2) 0x5555_5555_5555_5555) (shr_le c.args.n 1)
@@ -72,7 +72,7 @@ returns : tie.Need-returns
 returns c =
     let n = c.args.n in
     let h : n < 2 ^ 64 = c.ranges.n.fits in
-    record { a-is = a-is n h; b-is = b-is n h; c-is = c-is n h; d-is = d-is n h; e-is = e-is n h }
+    record { a_is = a_is n h; b_is = b_is n h; c_is = c_is n h; d_is = d_is n h; e_is = e_is n h }
 
 pub count-fields-spec : {M : Type 1} → statement M
 count-fields-spec = tie.close (tie.spec sub-a add-b add-c add-d add-e returns)

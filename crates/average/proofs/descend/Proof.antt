@@ -1,6 +1,6 @@
 -- `average::descend` meets its contract: one law over the stride, for each half. Assumes nothing.
 use borrow.Author.Rules.{rules}
-use Rattle.average.proofs.Descent.{to-lower, to-upper}
+use Rattle.average.proofs.Descent.{to_lower, to_upper}
 use Rattle.average.proofs.descend.Statement.{statement}
 use Rattle.average.proofs.descend.Tie as tie
 
@@ -26,10 +26,10 @@ shr-t13 : tie.Need-overflow-shr-t13
 shr-t13 c = search rules
 
 returns : tie.Need-returns
-returns c = λ n t g. to-lower n t _ _ _ _ g (search rules)
+returns c = λ n t g. to_lower n t _ _ _ _ g (search rules)
 
 returns-2 : tie.Need-returns-2
-returns-2 c = λ n t g. to-upper n t _ _ _ _ g (search rules)
+returns-2 c = λ n t g. to_upper n t _ _ _ _ g (search rules)
 
 pub descend-spec : {M : Type 1} → statement M
 descend-spec =

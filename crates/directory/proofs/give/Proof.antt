@@ -2,8 +2,8 @@
 use mathlib.Core.Path.{◌≡◌, sym, ◌∙◌}
 use native.Mathlib.Omega.{arith}
 use borrow.Author.Rules.{rules}
-use Rattle.directory.specs.Calls.{directory, itemRefusal}
-use Rattle.directory.proofs.Answers.{judged, item_in, give-refused, give-done, give-full}
+use Rattle.directory.specs.Calls.{directory, item_refusal}
+use Rattle.directory.proofs.Answers.{judged, item_in, give_refused, give_done, give_full}
 use Rattle.directory.proofs.give.Statement.{statement}
 use Rattle.directory.proofs.give.Tie as tie
 
@@ -17,12 +17,12 @@ same-length-2 : tie.Need-same-length-2
 same-length-2 c = search rules
 
 returns : tie.Need-returns
-returns c = give-refused _ _ c.before.judge.ensures c.if1.true
+returns c = give_refused _ _ c.before.judge.ensures c.if1.true
 
 -- past the test nothing stands in the way of the item
 goes_on : (c : tie.Else1)
     → let a = c.before.before.before.before.before.before.args in
-    itemRefusal (directory a.store.now a.owners.now) a.item ≡ 0
+    item_refusal (directory a.store.now a.owners.now) a.item ≡ 0
 goes_on c = sym c.before.judge.ensures ∙ c.if1.false
 
 lowest-free-requires : tie.Need-lowest-free-requires
@@ -49,7 +49,7 @@ returns-2 c =
     let m = c.before.before.before.before in
     let t = m.before.before.before in
     let l = t.before in
-    give-done _ _ (goes_on l.before.before) _ _ l.lowest-free.ensures t.if2.true m.hand.ensures.0 m.hand.ensures.1
+    give_done _ _ (goes_on l.before.before) _ _ l.lowest-free.ensures t.if2.true m.hand.ensures.0 m.hand.ensures.1
 
 same-length-5 : tie.Need-same-length-5
 same-length-5 c = search rules
@@ -58,7 +58,7 @@ same-length-6 : tie.Need-same-length-6
 same-length-6 c = search rules
 
 returns-3 : tie.Need-returns-3
-returns-3 c = let l = c.before in give-full _ _ (goes_on l.before.before) l.lowest-free.ensures (omega (arith, c.if2.false))
+returns-3 c = let l = c.before in give_full _ _ (goes_on l.before.before) l.lowest-free.ensures (omega (arith, c.if2.false))
 
 pub give_spec : {M : Type 1} → statement M
 give_spec =

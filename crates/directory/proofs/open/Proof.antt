@@ -1,7 +1,7 @@
 -- `open` meets its contract. Assumes nothing.
 use mathlib.Core.Path.{sym, ◌∙◌}
 use borrow.Author.Rules.{rules}
-use Rattle.directory.proofs.Answers.{directory-refused, directory-done}
+use Rattle.directory.proofs.Answers.{directory-refused, directory_done}
 use Rattle.directory.proofs.open.Statement.{statement}
 use Rattle.directory.proofs.open.Tie as tie
 
@@ -28,7 +28,7 @@ returns-2 c =
     let z = c.before.before in
     let o = z.before.before.before.before in
     let e = o.before.before in
-    directory-done _ _ (sym e.before.judge-open.ensures ∙ e.if1.false) _ _ o.«open».ensures.memory z.zero.ensures
+    directory_done _ _ (sym e.before.judge-open.ensures ∙ e.if1.false) _ _ o.«open».ensures.memory z.zero.ensures
 
 pub open_spec : {M : Type 1} → statement M
 open_spec =

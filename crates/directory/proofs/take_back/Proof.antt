@@ -2,7 +2,7 @@
 use mathlib.Core.Path.{◌≡◌, sym, ◌∙◌}
 use native.Mathlib.Omega.{arith}
 use borrow.Author.Rules.{rules}
-use Rattle.directory.specs.Calls.{directory, returnRefusal}
+use Rattle.directory.specs.Calls.{directory, return_refusal}
 use Rattle.directory.proofs.Answers.{returned, take-refused, take_done}
 use Rattle.directory.proofs.take_back.Statement.{statement}
 use Rattle.directory.proofs.take_back.Tie as tie
@@ -22,7 +22,7 @@ returns c = take-refused _ _ _ c.before.judge-return.ensures c.if1.true
 -- past the test nothing stands in the way
 goes_on : (c : tie.Else1)
     → let a = c.before.before.before.before.before.before.args in
-    returnRefusal (directory a.store.now a.owners.now) a.item a.chunk ≡ 0
+    return_refusal (directory a.store.now a.owners.now) a.item a.chunk ≡ 0
 goes_on c = sym c.before.judge-return.ensures ∙ c.if1.false
 
 release-requires : tie.Need-release-requires

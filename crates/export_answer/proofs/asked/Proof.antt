@@ -3,9 +3,9 @@ use mathlib.Core.List.{[], ◌∷◌}
 use mathlib.Core.Path.{ap, ◌∙◌}
 use Prim.Native.Nat.{ℕ}
 use borrow.Author.Rules.{rules}
-use Rattle.store.specs.Answer.{askedPaper}
+use Rattle.store.specs.Answer.{asked_paper}
 use Rattle.export_answer.specs.Abi.{answer_of}
-use Rattle.export_answer.proofs.Tells.{tells-paper}
+use Rattle.export_answer.proofs.Tells.{tells_paper}
 use Rattle.export_answer.proofs.asked.Statement.{statement}
 use Rattle.export_answer.proofs.asked.Tie as tie
 
@@ -25,10 +25,10 @@ refused-requires : tie.Need-refused-requires
 refused-requires c κs = search rules
 
 returns : tie.Need-returns
-returns c = tells-paper askedPaper (c.value.ensures ∙ ap (λ (v : ℕ). answer_of (0 ∷ v ∷ [])) c.before.yes.ensures) c.before.before.before.r.given.1
+returns c = tells_paper asked_paper (c.value.ensures ∙ ap (λ (v : ℕ). answer_of (0 ∷ v ∷ [])) c.before.yes.ensures) c.before.before.before.r.given.1
 
 returns-2 : tie.Need-returns-2
-returns-2 c = tells-paper askedPaper c.refused.ensures c.before.before.r2.given.1
+returns-2 c = tells_paper asked_paper c.refused.ensures c.before.before.r2.given.1
 
 pub asked-spec : {M : Type 1} → statement M
 asked-spec =

@@ -1,7 +1,7 @@
 -- `did` meets its contract. Assumes nothing.
 use borrow.Author.Rules.{rules}
-use Rattle.store.specs.Answer.{didPaper}
-use Rattle.export_answer.proofs.Tells.{tells-paper}
+use Rattle.store.specs.Answer.{did_paper}
+use Rattle.export_answer.proofs.Tells.{tells_paper}
 use Rattle.export_answer.proofs.did.Statement.{statement}
 use Rattle.export_answer.proofs.did.Tie as tie
 
@@ -18,10 +18,10 @@ refused-requires : tie.Need-refused-requires
 refused-requires c κs = search rules
 
 returns : tie.Need-returns
-returns c = tells-paper didPaper c.value.ensures c.before.enum_told.given.1
+returns c = tells_paper did_paper c.value.ensures c.before.enum_told.given.1
 
 returns-2 : tie.Need-returns-2
-returns-2 c = tells-paper didPaper c.refused.ensures c.before.before.r.given.1
+returns-2 c = tells_paper did_paper c.refused.ensures c.before.before.r.given.1
 
 pub did-spec : {M : Type 1} → statement M
 did-spec =

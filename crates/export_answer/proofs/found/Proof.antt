@@ -1,7 +1,7 @@
 -- `found` meets its contract. Assumes nothing.
 use borrow.Author.Rules.{rules}
-use Rattle.store.specs.Answer.{foundPaper}
-use Rattle.export_answer.proofs.Tells.{tells-paper}
+use Rattle.store.specs.Answer.{found_paper}
+use Rattle.export_answer.proofs.Tells.{tells_paper}
 use Rattle.export_answer.proofs.found.Statement.{statement}
 use Rattle.export_answer.proofs.found.Tie as tie
 
@@ -21,10 +21,10 @@ refused-requires : tie.Need-refused-requires
 refused-requires c κs = search rules
 
 returns : tie.Need-returns
-returns c = tells-paper foundPaper c.value.ensures c.before.before.r.given.1
+returns c = tells_paper found_paper c.value.ensures c.before.before.r.given.1
 
 returns-2 : tie.Need-returns-2
-returns-2 c = tells-paper foundPaper c.refused.ensures c.before.before.r2.given.1
+returns-2 c = tells_paper found_paper c.refused.ensures c.before.before.r2.given.1
 
 pub found-spec : {M : Type 1} → statement M
 found-spec =

@@ -1,7 +1,7 @@
 -- `read` meets its contract. Assumes nothing.
 use borrow.Author.Rules.{rules}
-use Rattle.store.specs.Answer.{readPaper}
-use Rattle.export_answer.proofs.Tells.{tells-paper}
+use Rattle.store.specs.Answer.{read_paper}
+use Rattle.export_answer.proofs.Tells.{tells_paper}
 use Rattle.export_answer.proofs.read.Statement.{statement}
 use Rattle.export_answer.proofs.read.Tie as tie
 
@@ -18,10 +18,10 @@ refused-requires : tie.Need-refused-requires
 refused-requires c κs = search rules
 
 returns : tie.Need-returns
-returns c = tells-paper readPaper c.value.ensures c.before.before.r.given.1
+returns c = tells_paper read_paper c.value.ensures c.before.before.r.given.1
 
 returns-2 : tie.Need-returns-2
-returns-2 c = tells-paper readPaper c.refused.ensures c.before.before.r2.given.1
+returns-2 c = tells_paper read_paper c.refused.ensures c.before.before.r2.given.1
 
 pub read_spec : {M : Type 1} → statement M
 read_spec =

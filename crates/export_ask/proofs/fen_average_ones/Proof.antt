@@ -1,7 +1,7 @@
 -- `fen_average_ones` meets its contract. Assumes nothing.
 use borrow.Author.Rules.{rules}
 use Rattle.average.specs.Average.{paper}
-use Rattle.export_answer.proofs.Tells.{tells-bit}
+use Rattle.export_answer.proofs.Tells.{tells_bit}
 use Rattle.export_ask.proofs.fen_average_ones.Statement.{statement}
 use Rattle.export_ask.proofs.fen_average_ones.Tie as tie
 
@@ -15,10 +15,10 @@ enum_told : tie.Need-enum-told
 enum_told c = search rules
 
 returns : tie.Need-returns
-returns c = let h = c.before in tells-bit paper h.before.before.average-ones.ensures h.bit.given.1
+returns c = let h = c.before in tells_bit paper h.before.before.average-ones.ensures h.bit.given.1
 
 returns-2 : tie.Need-returns-2
-returns-2 c = tells-bit paper c.before.before.average-ones.ensures c.enum_told.given.1
+returns-2 c = tells_bit paper c.before.before.average-ones.ensures c.enum_told.given.1
 
 pub fen-average-ones-spec : {M : Type 1} → statement M
 fen-average-ones-spec =

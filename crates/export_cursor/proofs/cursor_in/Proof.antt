@@ -4,7 +4,7 @@ use mathlib.Core.Path.{ap₂}
 use Prim.Native.Nat.{ℕ}
 use borrow.Author.Rules.{rules}
 use lib.ListN.{get_or}
-use Rattle.export_cursor.specs.Ten.{cursorOf}
+use Rattle.export_cursor.specs.Ten.{cursor_of}
 use Rattle.export_cursor.proofs.cursor_in.Statement.{statement}
 use Rattle.export_cursor.proofs.cursor_in.Tie as tie
 use Rattle.export_cursor.proofs.prefix_in.Reads as prefix-in-reads
@@ -40,7 +40,7 @@ prefix-in-requires-3 : tie.Need-prefix-in-requires-3
 prefix-in-requires-3 c κs = search rules
 
 returns : tie.Need-returns
-unfolding cursorOf
+unfolding cursor_of
 returns c =
     let b = c.before.before in
     let a = b.before.before in

@@ -1,7 +1,7 @@
 -- `cursor_out` meets its contract. Assumes nothing.
 use mathlib.Core.Path.{refl}
 use borrow.Author.Rules.{rules}
-use Rattle.export_cursor.specs.Ten.{cursorWords}
+use Rattle.export_cursor.specs.Ten.{cursor_words}
 use Rattle.export_cursor.proofs.cursor_out.Statement.{statement}
 use Rattle.export_cursor.proofs.cursor_out.Tie as tie
 
@@ -42,7 +42,7 @@ cast-t35 : tie.Need-overflow-cast-t35
 cast-t35 c = search rules
 
 returns : tie.Need-returns
-unfolding cursorWords
+unfolding cursor_words
 returns c = refl
 
 pub cursor-out-spec : {M : Type 1} → statement M

@@ -5,11 +5,11 @@ use lib.ListN.{length}
 use Rattle.walk.specs.declared.Cursor.{Cursor}
 use Rattle.walk_fill.specs.Fill.{Filled, batch}
 use Rattle.walk_fill.specs.declared.Batch.{Batch}
-use Rattle.walk_fill.proofs.Fills.{the-batch}
+use Rattle.walk_fill.proofs.Fills.{the_batch}
 use Rattle.formula_codes.specs.Tree.{four}
-use Rattle.formula_fill.specs.Calls.{formulaFillIn}
-use Rattle.export_cursor.specs.Ten.{cursorOf}
-use Rattle.export_step.specs.Answers.{stopOf, left_of, out_of}
+use Rattle.formula_fill.specs.Calls.{formula_fill_in}
+use Rattle.export_cursor.specs.Ten.{cursor_of}
+use Rattle.export_step.specs.Answers.{stop_of, left_of, out_of}
 use Rattle.export_formula_walk.proofs.fen_formula_fill.Statement.{statement}
 use Rattle.export_formula_walk.proofs.fen_formula_fill.Tie as tie
 
@@ -34,12 +34,12 @@ returns c =
     let cs = a.codes.now in
     let l = a.cursor.now in
     let o = a.out.now in
-    let f = formulaFillIn ss cs t.cursor-in.result a.budget (length o) in
-    let e : f ≡ formulaFillIn ss cs (cursorOf l) a.budget (length o) = ap (λ (x : Cursor). formulaFillIn ss cs x a.budget (length o)) t.cursor-in.ensures in
-    let g : n.fill.result ≡ batch (formulaFillIn ss cs (cursorOf l) a.budget (length o)) = the-batch f o n.fill.ensures ∙ ap batch e in (
-      c.told-batch.ensures.0 ∙ ap (λ (x : Batch). stopOf x.stop x.count) g,
+    let f = formula_fill_in ss cs t.cursor-in.result a.budget (length o) in
+    let e : f ≡ formula_fill_in ss cs (cursor_of l) a.budget (length o) = ap (λ (x : Cursor). formula_fill_in ss cs x a.budget (length o)) t.cursor-in.ensures in
+    let g : n.fill.result ≡ batch (formula_fill_in ss cs (cursor_of l) a.budget (length o)) = the_batch f o n.fill.ensures ∙ ap batch e in (
+      c.told-batch.ensures.0 ∙ ap (λ (x : Batch). stop_of x.stop x.count) g,
       (
-        c.told-batch.ensures.1 ∙ ap (λ (x : Batch). left_of (stopOf x.stop x.count) l x.cursor x.reads) g,
+        c.told-batch.ensures.1 ∙ ap (λ (x : Batch). left_of (stop_of x.stop x.count) l x.cursor x.reads) g,
         n.fill.ensures.memory ∙ ap (λ (x : Filled). out_of x o) e,
       ),
     )

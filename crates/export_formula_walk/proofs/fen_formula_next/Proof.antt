@@ -5,9 +5,9 @@ use Rattle.walk.specs.declared.Cursor.{Cursor}
 use Rattle.walk.specs.declared.Step.{Step}
 use Rattle.walk.proofs.Answers.{the_step}
 use Rattle.formula_codes.specs.Tree.{four}
-use Rattle.formula_walk.specs.Calls.{formulaNextIn}
-use Rattle.export_cursor.specs.Ten.{cursorOf}
-use Rattle.export_step.specs.Answers.{movedOf, cursorAfter}
+use Rattle.formula_walk.specs.Calls.{formula_next_in}
+use Rattle.export_cursor.specs.Ten.{cursor_of}
+use Rattle.export_step.specs.Answers.{moved_of, cursor_after}
 use Rattle.export_formula_walk.proofs.fen_formula_next.Statement.{statement}
 use Rattle.export_formula_walk.proofs.fen_formula_next.Tie as tie
 
@@ -28,9 +28,9 @@ returns c =
     let ss = four a.s0.now a.s1.now a.s2.now a.s3.now in
     let cs = a.codes.now in
     let l = a.cursor.now in
-    let e : n.next.result ≡ formulaNextIn ss cs (cursorOf l) a.budget =
-    the_step (formulaNextIn ss cs t.cursor-in.result a.budget) n.next.ensures ∙ ap (λ (x : Cursor). formulaNextIn ss cs x a.budget) t.cursor-in.ensures in
-    (c.told-step.ensures.0 ∙ ap movedOf e, c.told-step.ensures.1 ∙ ap (λ (x : Step). cursorAfter x l) e)
+    let e : n.next.result ≡ formula_next_in ss cs (cursor_of l) a.budget =
+    the_step (formula_next_in ss cs t.cursor-in.result a.budget) n.next.ensures ∙ ap (λ (x : Cursor). formula_next_in ss cs x a.budget) t.cursor-in.ensures in
+    (c.told-step.ensures.0 ∙ ap moved_of e, c.told-step.ensures.1 ∙ ap (λ (x : Step). cursor_after x l) e)
 
 pub fen-formula-next-spec : {M : Type 1} → statement M
 fen-formula-next-spec = tie.close (tie.spec cursor-in-requires next-requires told-step-requires returns)

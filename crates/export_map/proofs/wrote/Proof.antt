@@ -1,7 +1,7 @@
 -- `export_map::wrote` meets its contract. Assumes nothing.
 use borrow.Author.Rules.{rules}
-use Rattle.map_write.specs.Answer.{wrotePaper}
-use Rattle.export_answer.proofs.Tells.{tells-paper}
+use Rattle.map_write.specs.Answer.{wrote_paper}
+use Rattle.export_answer.proofs.Tells.{tells_paper}
 use Rattle.export_map.proofs.wrote.Statement.{statement}
 use Rattle.export_map.proofs.wrote.Tie as tie
 
@@ -18,10 +18,10 @@ refused-requires : tie.Need-refused-requires
 refused-requires c κs = search rules
 
 returns : tie.Need-returns
-returns c = tells-paper wrotePaper c.number.ensures c.before.before.r.given.1
+returns c = tells_paper wrote_paper c.number.ensures c.before.before.r.given.1
 
 returns-2 : tie.Need-returns-2
-returns-2 c = tells-paper wrotePaper c.refused.ensures c.before.before.r2.given.1
+returns-2 c = tells_paper wrote_paper c.refused.ensures c.before.before.r2.given.1
 
 pub wrote-spec : {M : Type 1} → statement M
 wrote-spec =

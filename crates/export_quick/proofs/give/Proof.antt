@@ -6,7 +6,7 @@ use native.Mathlib.Omega.{arith}
 use borrow.Author.Rules.{rules}
 use lib.Count.{trailing_le}
 use lib.ListN.{get_or}
-use Rattle.export_quick.specs.Handing.{handedId, handedOf}
+use Rattle.export_quick.specs.Handing.{handed_id, handed_of}
 use Rattle.export_quick.proofs.give.Statement.{statement}
 use Rattle.export_quick.proofs.give.Tie as tie
 
@@ -49,7 +49,7 @@ add-result c =
     record { fits = omega (arith, s.requires.1, trailing_le 64 (get_or s.args.words.now 0 0)) }
 
 returns : tie.Need-returns
-unfolding handedId handedOf
+unfolding handed_id handed_of
 returns c =
     let k = c.before in
     let l = k.before.before.before.before.before.before.before.before.before.before.args.words.now in (

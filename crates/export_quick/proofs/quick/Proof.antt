@@ -3,8 +3,8 @@ use mathlib.Core.Bool.{true}
 use mathlib.Core.Path.{◌≡◌, sym, ap, ◌∙◌}
 use Prim.Native.Nat.{ℕ}
 use borrow.Author.Rules.{rules}
-use Rattle.export_quick.specs.Handing.{readyOf}
-use Rattle.export_quick.proofs.Quickly.{has-bit, small}
+use Rattle.export_quick.specs.Handing.{ready_of}
+use Rattle.export_quick.proofs.Quickly.{has_bit, small}
 use Rattle.export_quick.proofs.quick.Statement.{statement}
 use Rattle.export_quick.proofs.quick.Tie as tie
 
@@ -12,14 +12,14 @@ ready-requires : tie.Need-ready-requires
 ready-requires c κs = search rules
 
 -- past the test
-ready-here : (c : tie.Then1) → readyOf c.before.before.before.before.args.store.now c.before.before.before.before.args.words.now ≡ true
+ready-here : (c : tie.Then1) → ready_of c.before.before.before.before.args.store.now c.before.before.before.before.args.words.now ≡ true
 ready-here c = sym c.before.ready.ensures ∙ c.if1.true
 
 give-requires : tie.Need-give-requires
 give-requires c κs =
     let t = c.before in
     let a = t.before.before.before.before.args in
-    (has-bit a.store.now a.words.now (ready-here t), small a.store.now a.words.now (ready-here t))
+    (has_bit a.store.now a.words.now (ready-here t), small a.store.now a.words.now (ready-here t))
 
 returns : tie.Need-returns
 returns c =

@@ -7,9 +7,9 @@ use borrow.Author.Rules.{rules}
 use borrow.Author.Tests.{lt-ltb, le-ltb}
 use lib.Dec.{ltb}
 use lib.ListN.{get_or}
-use Rattle.store.proofs.Ends.{some-store, no_store}
-use Rattle.store.proofs.Geometry.{is-store}
-use Rattle.export_quick.specs.Handing.{readyOf}
+use Rattle.store.proofs.Ends.{some_store, no_store}
+use Rattle.store.proofs.Geometry.{is_store_lem}
+use Rattle.export_quick.specs.Handing.{ready_of}
 use Rattle.export_quick.proofs.ready.Statement.{statement}
 use Rattle.export_quick.proofs.ready.Tie as tie
 
@@ -17,7 +17,7 @@ element-copy-out-if1 : tie.Need-element-copy-out-if1
 element-copy-out-if1 c = search rules
 
 returns : tie.Need-returns
-unfolding readyOf
+unfolding ready_of
 returns c =
     let l = c.before.before.before.args.words.now in
     let z : get_or l 0 0 ≡ 0 = c.if1.true in
@@ -35,7 +35,7 @@ capacity-requires : tie.Need-capacity-requires
 capacity-requires c κs = search rules
 
 returns-2 : tie.Need-returns-2
-unfolding readyOf
+unfolding ready_of
 returns-2 c =
     let k = c.before in
     let s = k.before.before.before.before.args.store.now in
@@ -54,12 +54,12 @@ are-prefixes-requires : tie.Need-are-prefixes-requires
 are-prefixes-requires c κs = search rules
 
 returns-3 : tie.Need-returns-3
-unfolding readyOf
+unfolding ready_of
 returns-3 c =
     let e = c.before.before.before.before in
     let k = e.before in
     let s = k.before.before.before.before.args.store.now in
-    c.are-prefixes.ensures ∙ sym (rw (bit-here k.before, is-store (some-store s k.capacity.ensures e.if2.false)))
+    c.are-prefixes.ensures ∙ sym (rw (bit-here k.before, is_store_lem (some_store s k.capacity.ensures e.if2.false)))
 
 pub ready-spec : {M : Type 1} → statement M
 ready-spec =

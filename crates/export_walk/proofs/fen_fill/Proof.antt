@@ -3,11 +3,11 @@ use mathlib.Core.Path.{◌≡◌, ap, ◌∙◌}
 use borrow.Author.Rules.{rules}
 use lib.ListN.{length}
 use Rattle.walk.specs.declared.Cursor.{Cursor}
-use Rattle.walk_fill.specs.Fill.{Filled, batch, fillIn}
+use Rattle.walk_fill.specs.Fill.{Filled, batch, fill_in}
 use Rattle.walk_fill.specs.declared.Batch.{Batch}
-use Rattle.walk_fill.proofs.Fills.{the-batch}
-use Rattle.export_cursor.specs.Ten.{cursorOf}
-use Rattle.export_step.specs.Answers.{stopOf, left_of, out_of}
+use Rattle.walk_fill.proofs.Fills.{the_batch}
+use Rattle.export_cursor.specs.Ten.{cursor_of}
+use Rattle.export_step.specs.Answers.{stop_of, left_of, out_of}
 use Rattle.export_walk.proofs.fen_fill.Statement.{statement}
 use Rattle.export_walk.proofs.fen_fill.Tie as tie
 
@@ -31,12 +31,12 @@ returns c =
     let s = a.store.now in
     let l = a.cursor.now in
     let o = a.out.now in
-    let f = fillIn s t.cursor-in.result a.budget (length o) in
-    let e : f ≡ fillIn s (cursorOf l) a.budget (length o) = ap (λ (x : Cursor). fillIn s x a.budget (length o)) t.cursor-in.ensures in
-    let g : n.fill.result ≡ batch (fillIn s (cursorOf l) a.budget (length o)) = the-batch f o n.fill.ensures ∙ ap batch e in (
-      c.told-batch.ensures.0 ∙ ap (λ (x : Batch). stopOf x.stop x.count) g,
+    let f = fill_in s t.cursor-in.result a.budget (length o) in
+    let e : f ≡ fill_in s (cursor_of l) a.budget (length o) = ap (λ (x : Cursor). fill_in s x a.budget (length o)) t.cursor-in.ensures in
+    let g : n.fill.result ≡ batch (fill_in s (cursor_of l) a.budget (length o)) = the_batch f o n.fill.ensures ∙ ap batch e in (
+      c.told-batch.ensures.0 ∙ ap (λ (x : Batch). stop_of x.stop x.count) g,
       (
-        c.told-batch.ensures.1 ∙ ap (λ (x : Batch). left_of (stopOf x.stop x.count) l x.cursor x.reads) g,
+        c.told-batch.ensures.1 ∙ ap (λ (x : Batch). left_of (stop_of x.stop x.count) l x.cursor x.reads) g,
         n.fill.ensures.memory ∙ ap (λ (x : Filled). out_of x o) e,
       ),
     )

@@ -5,8 +5,8 @@ use Rattle.walk.specs.Calls.{start_in}
 use Rattle.walk.specs.declared.Cursor.{Cursor}
 use Rattle.walk.specs.declared.Step.{Step}
 use Rattle.walk.proofs.Answers.{the_step}
-use Rattle.export_cursor.specs.Ten.{cursorOf}
-use Rattle.export_step.specs.Answers.{movedOf, cursorAfter}
+use Rattle.export_cursor.specs.Ten.{cursor_of}
+use Rattle.export_step.specs.Answers.{moved_of, cursor_after}
 use Rattle.export_walk.proofs.fen_start.Statement.{statement}
 use Rattle.export_walk.proofs.fen_start.Tie as tie
 
@@ -26,9 +26,9 @@ returns c =
     let a = t.before.before.before.args in
     let s = a.store.now in
     let l = a.cursor.now in
-    let e : n.start.result ≡ start_in s (cursorOf l) =
+    let e : n.start.result ≡ start_in s (cursor_of l) =
     the_step (start_in s t.cursor-in.result) n.start.ensures ∙ ap (λ (x : Cursor). start_in s x) t.cursor-in.ensures in
-    (c.told-step.ensures.0 ∙ ap movedOf e, c.told-step.ensures.1 ∙ ap (λ (x : Step). cursorAfter x l) e)
+    (c.told-step.ensures.0 ∙ ap moved_of e, c.told-step.ensures.1 ∙ ap (λ (x : Step). cursor_after x l) e)
 
 pub fen-start-spec : {M : Type 1} → statement M
 fen-start-spec = tie.close (tie.spec cursor-in-requires start-requires told-step-requires returns)

@@ -1,7 +1,7 @@
 -- `get_from_layer` meets its contract. Assumes nothing.
 use mathlib.Core.Path.{◌≡◌, ap, ◌∙◌}
 use Rattle.store.specs.Layout.{top, cap}
-use Rattle.formula_ask.proofs.Answers.{word-refused, layer-word-top, layer-word-is}
+use Rattle.formula_ask.proofs.Answers.{word-refused, layer_word-top, layer_word_is}
 use borrow.Author.Rules.{rules}
 use Rattle.formula_ask.proofs.get_from_layer.Statement.{statement}
 use Rattle.formula_ask.proofs.get_from_layer.Tie as tie
@@ -39,7 +39,7 @@ returns-2 c =
     let f = e.before in
     let t = f.before.before in
     let a = t.before.before.before.before.before.before.before.args in
-    layer-word-top a.s0.now a.s1.now a.s2.now a.s3.now a.codes.now f.before.check.ensures (top-here t) a.layer f.refusal.ensures e.if1.false
+    layer_word-top a.s0.now a.s1.now a.s2.now a.s3.now a.codes.now f.before.check.ensures (top-here t) a.layer f.refusal.ensures e.if1.false
     t.before.named.ensures a.idx i.if2.true c.word.ensures
 
 word-requires-2 : tie.Need-word-requires-2
@@ -52,7 +52,7 @@ returns-3 c =
     let f = e.before in
     let t = f.before.before in
     let a = t.before.before.before.before.before.before.before.args in
-    layer-word-is a.s0.now a.s1.now a.s2.now a.s3.now a.codes.now f.before.check.ensures (top-here t) a.layer f.refusal.ensures e.if1.false
+    layer_word_is a.s0.now a.s1.now a.s2.now a.s3.now a.codes.now f.before.check.ensures (top-here t) a.layer f.refusal.ensures e.if1.false
     t.before.named.ensures a.idx i.if2.false c.word2.ensures
 
 pub get-from-layer-spec : {M : Type 1} → statement M

@@ -1,5 +1,5 @@
 -- `is_empty` meets its contract. Assumes nothing.
-use Rattle.formula_ask.proofs.Answers.{empty-refused, formula-empty-is}
+use Rattle.formula_ask.proofs.Answers.{empty-refused, formula_empty_is}
 use borrow.Author.Rules.{rules}
 use Rattle.formula_ask.proofs.is_empty.Statement.{statement}
 use Rattle.formula_ask.proofs.is_empty.Tie as tie
@@ -27,7 +27,7 @@ returns-2 c =
     let g = t.before in
     let e = g.before in
     let a = e.before.before.before.before.before.before.before.args in
-    formula-empty-is a.s0.now a.s1.now a.s2.now a.s3.now a.codes.now e.before.check.ensures e.if1.false g.named.ensures t.top.ensures c.word.ensures
+    formula_empty_is a.s0.now a.s1.now a.s2.now a.s3.now a.codes.now e.before.check.ensures e.if1.false g.named.ensures t.top.ensures c.word.ensures
 
 pub is_empty_spec : {M : Type 1} → statement M
 is_empty_spec =

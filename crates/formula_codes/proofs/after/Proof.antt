@@ -1,7 +1,7 @@
 -- `after` meets its contract. Assumes nothing.
 use mathlib.Core.Logic.{inl, inr}
 use borrow.Author.Rules.{rules}
-use Rattle.formula_codes.proofs.Turns.{takes-lent, takes-missing, takes_two, takes-last, takes-unknown, none-waits, as-taken}
+use Rattle.formula_codes.proofs.Turns.{takes_lent, takes_missing, takes_two, takes_last, takes_unknown, none_waits, as_taken}
 use Rattle.formula_codes.proofs.after.Statement.{statement}
 use Rattle.formula_codes.proofs.after.Tie as tie
 
@@ -14,7 +14,7 @@ element-copy-out-if2 c = search rules
 returns : tie.Need-returns
 returns c =
     let s = c.before.before.before in
-    none-waits s.requires (takes-missing s.args.lens.now s.args.code c.before.before.if1.true c.if2.true)
+    none_waits s.requires (takes_missing s.args.lens.now s.args.code c.before.before.if1.true c.if2.true)
 
 put-requires : tie.Need-put-requires
 put-requires c κs = search rules
@@ -35,29 +35,29 @@ returns-2 : tie.Need-returns-2
 returns-2 c =
     let e = c.before in
     let a = e.before.before.before.args in
-    as-taken a.d c.put.ensures (takes-lent a.lens.now a.code e.before.before.if1.true e.if2.false)
+    as_taken a.d c.put.ensures (takes_lent a.lens.now a.code e.before.before.if1.true e.if2.false)
 
 returns-3 : tie.Need-returns-3
 returns-3 c =
     let e = c.before in
     let a = e.before.before.before.args in
-    as-taken a.d c.put2.ensures (takes_two a.lens.now a.code e.before.if3.false e.if4.true)
+    as_taken a.d c.put2.ensures (takes_two a.lens.now a.code e.before.if3.false e.if4.true)
 
 returns-4 : tie.Need-returns-4
 returns-4 c =
     let e = c.before in
     let a = e.before.before.before.before.args in
-    as-taken a.d c.put3.ensures (takes-last a.lens.now a.code e.before.if4.false e.if5.true)
+    as_taken a.d c.put3.ensures (takes_last a.lens.now a.code e.before.if4.false e.if5.true)
 
 returns-5 : tie.Need-returns-5
 returns-5 c =
     let s = c.before.before in
-    none-waits s.requires (takes-unknown s.args.lens.now s.args.code c.before.if1.false (inl c.if3.true))
+    none_waits s.requires (takes_unknown s.args.lens.now s.args.code c.before.if1.false (inl c.if3.true))
 
 returns-6 : tie.Need-returns-6
 returns-6 c =
     let s = c.before.before.before.before in
-    none-waits s.requires (takes-unknown s.args.lens.now s.args.code c.before.before.before.if1.false (inr c.if5.false))
+    none_waits s.requires (takes_unknown s.args.lens.now s.args.code c.before.before.before.if1.false (inr c.if5.false))
 
 pub after-spec : {M : Type 1} → statement M
 after-spec =

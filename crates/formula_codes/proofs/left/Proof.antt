@@ -4,7 +4,7 @@ use native.Mathlib.Omega.{arith}
 use borrow.Author.Rules.{rules}
 use lib.ListN.{length}
 use Rattle.formula_codes.specs.Steps.{Counting}
-use Rattle.formula_codes.proofs.Turns.{counting-start, stops, counting-on, counting-done}
+use Rattle.formula_codes.proofs.Turns.{counting_start, stops, counting_on, counting_done}
 use Rattle.formula_codes.proofs.left.Statement.{statement}
 use Rattle.formula_codes.proofs.left.Tie as tie
 
@@ -15,7 +15,7 @@ abbrev decreases-loop : tie.decreases-loop
 decreases-loop codes lens d₀ j₀ d j = length codes - j
 
 loop-holds : tie.Need-loop-init invariant-loop decreases-loop
-loop-holds c = counting-start _ _
+loop-holds c = counting_start _ _
 
 shared-slice-read-after : tie.Need-shared-slice-read-after invariant-loop decreases-loop
 shared-slice-read-after c = search rules
@@ -33,10 +33,10 @@ loop-less : tie.Need-loop-smaller invariant-loop decreases-loop
 loop-less c = omega (arith, c.before.before.before.loop-test.true)
 
 loop-again : tie.Need-loop-preserved invariant-loop decreases-loop
-loop-again c = let t = c.before in counting-on t.before.before.before.loop.invariant t.before.before.loop-test.true t.after.ensures c.if1.false
+loop-again c = let t = c.before in counting_on t.before.before.before.loop.invariant t.before.before.loop-test.true t.after.ensures c.if1.false
 
 returns-2 : tie.Need-returns-2 invariant-loop decreases-loop
-returns-2 c = counting-done c.before.loop.invariant c.loop-test.false
+returns-2 c = counting_done c.before.loop.invariant c.loop-test.false
 
 pub left-spec : {M : Type 1} → statement M
 left-spec =

@@ -3,7 +3,7 @@ use mathlib.Core.Bool.{true≢false}
 use mathlib.Core.Path.{refl, sym, ◌∙◌}
 use borrow.Author.Rules.{rules}
 use borrow.Author.Tests.{eqb-true}
-use Rattle.formula_codes.proofs.Answers.{beside_none, beside-fits}
+use Rattle.formula_codes.proofs.Answers.{beside_none, beside_fits}
 use Rattle.formula_codes.proofs.like.Statement.{statement}
 use Rattle.formula_codes.proofs.like.Tie as tie
 
@@ -21,7 +21,7 @@ returns-3 : tie.Need-returns-3
 returns-3 c =
     let l = c.before in
     let s = l.before.before.before in
-    λ e. beside-fits s.args.n s.args.s.now l.before.if1.false
+    λ e. beside_fits s.args.n s.args.s.now l.before.if1.false
     (record { some = s.requires.0; most = s.requires.1; names = sym c.named.ensures ∙ eqb-true _ _ e; long = l.if2.false ∙ s.requires.2 }) refl
 
 pub like-spec : {M : Type 1} → statement M

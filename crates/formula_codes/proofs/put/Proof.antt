@@ -1,6 +1,6 @@
 -- `put` meets its contract. Assumes nothing.
 use borrow.Author.Rules.{rules}
-use Rattle.formula_codes.proofs.Turns.{too_few, too_many, waits-one-more}
+use Rattle.formula_codes.proofs.Turns.{too_few, too_many, waits_one-more}
 use Rattle.formula_codes.proofs.put.Statement.{statement}
 use Rattle.formula_codes.proofs.put.Tie as tie
 
@@ -14,7 +14,7 @@ add-result : tie.Need-overflow-add-result
 add-result c = search rules
 
 returns-3 : tie.Need-returns-3
-returns-3 c = waits-one-more _ _ c.before.if1.false c.if2.false
+returns-3 c = waits_one-more _ _ c.before.if1.false c.if2.false
 
 pub put_spec : {M : Type 1} → statement M
 put_spec = tie.close (tie.spec returns returns-2 add-result returns-3)

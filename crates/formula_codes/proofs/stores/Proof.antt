@@ -1,8 +1,8 @@
 -- `stores` meets its contract. Assumes nothing.
 use borrow.Author.Rules.{rules}
 use Rattle.store.specs.Layout.{StoreOf}
-use Rattle.store.proofs.Ends.{some-store, no_store}
-use Rattle.formula_codes.proofs.Answers.{stores-2, stores-alike, stores-first}
+use Rattle.store.proofs.Ends.{some_store, no_store}
+use Rattle.formula_codes.proofs.Answers.{stores_2, stores_alike, stores_first}
 use Rattle.formula_codes.proofs.stores.Statement.{statement}
 use Rattle.formula_codes.proofs.stores.Tie as tie
 
@@ -13,11 +13,11 @@ returns : tie.Need-returns
 returns c =
     let y = c.before in
     let a = y.before.before.before.before.before.args in
-    stores-2 a.s0.now a.s1.now a.s2.now a.s3.now (no_store a.s0.now y.capacity.ensures c.if1.true)
+    stores_2 a.s0.now a.s1.now a.s2.now a.s3.now (no_store a.s0.now y.capacity.ensures c.if1.true)
 
 -- store 0, behind the test
 first : (c : tie.Else1) → StoreOf c.before.capacity.result c.before.before.before.before.before.before.args.s0.now
-first c = let y = c.before in some-store y.before.before.before.before.before.args.s0.now y.capacity.ensures c.if1.false
+first c = let y = c.before in some_store y.before.before.before.before.before.args.s0.now y.capacity.ensures c.if1.false
 
 alike-requires : tie.Need-alike-requires
 alike-requires c κs = let z = first c in (z.some, z.most, z.long)
@@ -27,7 +27,7 @@ returns-2 c =
     let l = c.before in
     let e = l.before in
     let a = e.before.before.before.before.before.before.args in
-    stores-alike a.s0.now a.s1.now a.s2.now a.s3.now (first e) (l.alike.ensures c.if2.true)
+    stores_alike a.s0.now a.s1.now a.s2.now a.s3.now (first e) (l.alike.ensures c.if2.true)
 
 beside-requires : tie.Need-beside-requires
 beside-requires c κs = search rules
@@ -52,7 +52,7 @@ returns-3 c =
     let x1 = x2.before in
     let e = x1.before.before.before in
     let a = e.before.before.before.before.before.before.args in
-    stores-first a.s0.now a.s1.now a.s2.now a.s3.now (first e)
+    stores_first a.s0.now a.s1.now a.s2.now a.s3.now (first e)
     x1.beside.ensures x2.beside2.ensures x3.beside3.ensures o.sooner.ensures c.sooner2.ensures
 
 pub stores-spec : {M : Type 1} → statement M

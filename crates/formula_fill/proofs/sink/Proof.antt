@@ -1,6 +1,6 @@
 -- `formula_fill::sink` meets its contract. Assumes nothing.
 use borrow.Author.Rules.{rules}
-use Rattle.walk.proofs.Turns.{sink-none}
+use Rattle.walk.proofs.Turns.{sink_none}
 use Rattle.formula_fill.proofs.sink.Statement.{statement}
 use Rattle.formula_fill.proofs.sink.Tie as tie
 
@@ -8,7 +8,7 @@ array-read-if1 : tie.Need-array-read-if1
 array-read-if1 c = search rules
 
 returns : tie.Need-returns
-returns c = sink-none _ _ _ _ _ c.if1.true
+returns c = sink_none _ _ _ _ _ c.if1.true
 
 sink-requires : tie.Need-sink-requires
 sink-requires c κs = search rules

@@ -1,10 +1,10 @@
 -- `down` meets its contract. Assumes nothing.
-use Rattle.store.specs.Layout.{topMost}
+use Rattle.store.specs.Layout.{top_most}
 use mathlib.Core.Path.{refl}
 use native.Mathlib.Omega.{arith}
 use borrow.Author.Rules.{rules}
-use Rattle.walk.proofs.Cursors.{rests-at-hand, low-one-of-three, low-two-of-three, low-three-of-three, rests-at-the-end}
-use Rattle.formula_pair.proofs.Turns.{steps-none, steps-one}
+use Rattle.walk.proofs.Cursors.{rests_at_hand, low_one_of_three, low_two_of_three, low_three_of_three, rests_at_the_end}
+use Rattle.formula_pair.proofs.Turns.{steps_none, steps_one}
 use Rattle.formula_pair.proofs.down.Statement.{statement}
 use Rattle.formula_pair.proofs.down.Tie as tie
 
@@ -21,7 +21,7 @@ sunk-requires c κs = search rules
 returns : tie.Need-returns
 returns c =
     let t = c.before in
-    steps-none (rests-at-hand topMost (begin t.before).args.c t.if1.true) c.sunk.ensures
+    steps_none (rests_at_hand top_most (begin t.before).args.c t.if1.true) c.sunk.ensures
 
 array-read-if2 : tie.Need-array-read-if2
 array-read-if2 c = search rules
@@ -36,7 +36,7 @@ returns-2 : tie.Need-returns-2
 returns-2 c =
     let t = c.before.before in
     let e = t.before in
-    steps-one (low-one-of-three (begin e.before).args.c e.if1.false t.if2.true).0 (omega arith) (λ i. refl) c.before.read.ensures c.sunk2.ensures
+    steps_one (low_one_of_three (begin e.before).args.c e.if1.false t.if2.true).0 (omega arith) (λ i. refl) c.before.read.ensures c.sunk2.ensures
 
 array-read-if3 : tie.Need-array-read-if3
 array-read-if3 c = search rules
@@ -52,7 +52,7 @@ returns-3 c =
     let t = c.before.before in
     let f = t.before in
     let e = f.before in
-    steps-one (low-two-of-three (begin e.before).args.c e.if1.false f.if2.false t.if3.true).0 (omega arith) (λ i. refl) c.before.read2.ensures c.sunk3.ensures
+    steps_one (low_two_of_three (begin e.before).args.c e.if1.false f.if2.false t.if3.true).0 (omega arith) (λ i. refl) c.before.read2.ensures c.sunk3.ensures
 
 array-read-if4 : tie.Need-array-read-if4
 array-read-if4 c = search rules
@@ -69,7 +69,7 @@ returns-4 c =
     let g = t.before in
     let f = g.before in
     let e = f.before in
-    steps-one (low-three-of-three (begin e.before).args.c e.if1.false f.if2.false g.if3.false t.if4.true).0 (omega arith) (λ i. refl) c.before.read3.ensures c.sunk4.ensures
+    steps_one (low_three_of_three (begin e.before).args.c e.if1.false f.if2.false g.if3.false t.if4.true).0 (omega arith) (λ i. refl) c.before.read3.ensures c.sunk4.ensures
 
 sunk-requires-5 : tie.Need-sunk-requires-5
 sunk-requires-5 c κs = search rules
@@ -80,7 +80,7 @@ returns-5 c =
     let g = t.before in
     let f = g.before in
     let e = f.before in
-    steps-none (rests-at-the-end (begin e.before).args.c e.if1.false f.if2.false g.if3.false t.if4.false) c.sunk5.ensures
+    steps_none (rests_at_the_end (begin e.before).args.c e.if1.false f.if2.false g.if3.false t.if4.false) c.sunk5.ensures
 
 pub down-spec : {M : Type 1} → statement M
 down-spec =

@@ -3,11 +3,11 @@ use mathlib.Core.Path.{subst}
 use Prim.Native.Nat.{ℕ}
 use borrow.Author.Rules.{rules}
 use Rattle.store.specs.Layout.{top}
-use Rattle.store.proofs.TopLayer.{top-is}
+use Rattle.store.proofs.TopLayer.{top_is}
 use Rattle.walk.specs.Calls.{Fine}
 use Rattle.walk.proofs.Cursors.{fine_of}
-use Rattle.formula_pair.specs.Pair.{pairWords}
-use Rattle.formula_pair.proofs.Pairs.{over-taken, over-refused, pair_runs}
+use Rattle.formula_pair.specs.Pair.{pair_words}
+use Rattle.formula_pair.proofs.Pairs.{over_taken, over_refused, pair_runs}
 use Rattle.formula_pair.proofs.fill.Statement.{statement}
 use Rattle.formula_pair.proofs.fill.Tie as tie
 
@@ -21,7 +21,7 @@ returns : tie.Need-returns
 returns c =
     let t = c.before in
     let a = t.before.before.before.before.before.args in
-    over-refused a.c a.n t.before.refusal.ensures (pairWords a.code a.a.now a.b.now) a.budget a.out.now t.if1.true c.made.ensures
+    over_refused a.c a.n t.before.refusal.ensures (pair_words a.code a.a.now a.b.now) a.budget a.out.now t.if1.true c.made.ensures
 
 layer2-as-slice-requires : tie.Need-layer2-as-slice-requires
 layer2-as-slice-requires c κs = search rules
@@ -45,8 +45,8 @@ fill-in-requires : tie.Need-fill-in-requires
 fill-in-requires c κs =
     let e = c.before.before.before.before.before.before.before in
     let a = e.before.before.before.before.before.args in
-    let h = over-taken a.c a.n e.before.refusal.ensures e.if1.false in
-    subst (λ (t : ℕ). Fine t a.c.prefix) (top-is a.n) (fine_of (top a.n) a.c.prefix h)
+    let h = over_taken a.c a.n e.before.refusal.ensures e.if1.false in
+    subst (λ (t : ℕ). Fine t a.c.prefix) (top_is a.n) (fine_of (top a.n) a.c.prefix h)
 
 same_length : tie.Need-same-length
 same_length c = search rules

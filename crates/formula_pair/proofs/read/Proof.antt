@@ -3,7 +3,7 @@ use mathlib.Core.Path.{ap₂, ◌∙◌}
 use Prim.Native.Nat.{ℕ}
 use borrow.Author.Rules.{rules}
 use lib.ListN.{get_or}
-use Rattle.walk.proofs.Cursors.{lowers-by}
+use Rattle.walk.proofs.Cursors.{lowers_by}
 use Rattle.formula_codes.specs.Tree.{joined}
 use Rattle.formula_pair.proofs.read.Statement.{statement}
 use Rattle.formula_pair.proofs.read.Tie as tie
@@ -34,7 +34,7 @@ returns c =
     let p = x.before in
     let s = p.before.before.before in
     let a = s.args in
-    lowers-by (λ (k i : ℕ). joined a.code k (get_or a.a.now i 0) (get_or a.b.now i 0)) s.requires.0 s.requires.1 p.place.ensures
+    lowers_by (λ (k i : ℕ). joined a.code k (get_or a.a.now i 0) (get_or a.b.now i 0)) s.requires.0 s.requires.1 p.place.ensures
     (w.joined.ensures ∙ ap₂ (joined a.code a.j) x.get.ensures y.get2.ensures) c.handle-level.ensures
 
 pub read_spec : {M : Type 1} → statement M

@@ -3,14 +3,14 @@ use mathlib.Core.List.{[], ◌∷◌}
 use Prim.Native.Nat.{◌-◌}
 use native.Mathlib.Omega.{arith}
 use borrow.Author.Rules.{rules}
-use Rattle.store.specs.Layout.{topMost}
-use Rattle.walk.proofs.Turns.{Sinking, sink-start, sink-again, sink_rests, sink-none, sink-spent}
-use Rattle.formula_pair.specs.Pair.{joinedParts}
+use Rattle.store.specs.Layout.{top_most}
+use Rattle.walk.proofs.Turns.{Sinking, sink_start, sink_again, sink_rests, sink_none, sink_spent}
+use Rattle.formula_pair.specs.Pair.{joined_parts}
 use Rattle.formula_pair.proofs.sink.Statement.{statement}
 use Rattle.formula_pair.proofs.sink.Tie as tie
 
 abbrev invariant-loop : tie.invariant-loop
-invariant-loop code a2 a1 a0 b2 b1 b0 spent budget c₀ reads₀ c reads = Sinking (joinedParts code (a0 ∷ a1 ∷ a2 ∷ []) (b0 ∷ b1 ∷ b2 ∷ [])) topMost budget spent c₀ c reads
+invariant-loop code a2 a1 a0 b2 b1 b0 spent budget c₀ reads₀ c reads = Sinking (joined_parts code (a0 ∷ a1 ∷ a2 ∷ []) (b0 ∷ b1 ∷ b2 ∷ [])) top_most budget spent c₀ c reads
 
 abbrev decreases-loop : tie.decreases-loop
 decreases-loop code a2 a1 a0 b2 b1 b0 spent budget c₀ reads₀ c reads = budget - reads
@@ -19,10 +19,10 @@ array-read-if1 : tie.Need-array-read-if1 invariant-loop decreases-loop
 array-read-if1 c = search rules
 
 returns : tie.Need-returns invariant-loop decreases-loop
-returns c = sink-none _ _ _ _ _ c.if1.true
+returns c = sink_none _ _ _ _ _ c.if1.true
 
 loop-holds : tie.Need-loop-init invariant-loop decreases-loop
-loop-holds c = sink-start _ _ _ _ _
+loop-holds c = sink_start _ _ _ _ _
 
 down-requires : tie.Need-down-requires invariant-loop decreases-loop
 down-requires c κs = tt
@@ -39,10 +39,10 @@ loop-again c =
     let d = t.before.before in
     let l = d.before in
     let s = d.down.ensures in
-    sink-again l.before.loop.invariant (s.wanted t.if2.false) l.loop-test.true (s.lowers t.if2.false)
+    sink_again l.before.loop.invariant (s.wanted t.if2.false) l.loop-test.true (s.lowers t.if2.false)
 
 returns-2 : tie.Need-returns-2 invariant-loop decreases-loop
-returns-2 c = sink-spent c.before.loop.invariant c.loop-test.false
+returns-2 c = sink_spent c.before.loop.invariant c.loop-test.false
 
 returns-3 : tie.Need-returns-3 invariant-loop decreases-loop
 returns-3 c = let d = c.before.before in sink_rests d.before.before.loop.invariant (d.down.ensures.rests c.if2.true)

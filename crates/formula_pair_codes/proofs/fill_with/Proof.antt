@@ -4,7 +4,7 @@ use Prim.Native.Nat.{◌%◌}
 use native.Mathlib.Omega.{arith}
 use borrow.Author.Rules.{rules}
 use Rattle.formula_codes.specs.Tree.{four}
-use Rattle.formula_pair_codes.proofs.Named.{by-second}
+use Rattle.formula_pair_codes.proofs.Named.{by_second}
 use Rattle.formula_pair_codes.proofs.fill_with.Statement.{statement}
 use Rattle.formula_pair_codes.proofs.fill_with.Tie as tie
 
@@ -28,7 +28,7 @@ returns c =
     let f = c.before.before in
     let k = f.before.before in
     let a = k.before.before.before.before.before.before.before.args in
-    by-second (four a.s0.now a.s1.now a.s2.now a.s3.now) a.c a.n a.budget a.out.now a.last a.x.now 0 k.match.keys1 f.fill.ensures
+    by_second (four a.s0.now a.s1.now a.s2.now a.s3.now) a.c a.n a.budget a.out.now a.last a.x.now 0 k.match.keys1 f.fill.ensures
 
 same-length-2 : tie.Need-same-length-2
 same-length-2 c = search rules
@@ -38,7 +38,7 @@ returns-2 c =
     let f = c.before.before in
     let k = f.before.before in
     let a = k.before.before.before.before.before.before.before.args in
-    by-second (four a.s0.now a.s1.now a.s2.now a.s3.now) a.c a.n a.budget a.out.now a.last a.x.now 1 k.match.keys2 f.fill2.ensures
+    by_second (four a.s0.now a.s1.now a.s2.now a.s3.now) a.c a.n a.budget a.out.now a.last a.x.now 1 k.match.keys2 f.fill2.ensures
 
 same-length-3 : tie.Need-same-length-3
 same-length-3 c = search rules
@@ -48,7 +48,7 @@ returns-3 c =
     let f = c.before.before in
     let k = f.before.before in
     let a = k.before.before.before.before.before.before.before.args in
-    by-second (four a.s0.now a.s1.now a.s2.now a.s3.now) a.c a.n a.budget a.out.now a.last a.x.now 2 k.match.keys3 f.fill3.ensures
+    by_second (four a.s0.now a.s1.now a.s2.now a.s3.now) a.c a.n a.budget a.out.now a.last a.x.now 2 k.match.keys3 f.fill3.ensures
 
 same-length-4 : tie.Need-same-length-4
 same-length-4 c = search rules
@@ -60,7 +60,7 @@ returns-4 c =
     let a = k.before.before.before.before.before.before.before.args in
     let r = k.match.rest in
     let e : a.second % 4 ≡ 3 = omega (arith, r.0.0.1, r.0.1, r.1) in
-    by-second (four a.s0.now a.s1.now a.s2.now a.s3.now) a.c a.n a.budget a.out.now a.last a.x.now 3 e f.fill4.ensures
+    by_second (four a.s0.now a.s1.now a.s2.now a.s3.now) a.c a.n a.budget a.out.now a.last a.x.now 3 e f.fill4.ensures
 
 pub fill-with-spec : {M : Type 1} → statement M
 fill-with-spec =

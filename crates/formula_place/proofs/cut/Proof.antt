@@ -3,9 +3,9 @@ use mathlib.Core.Bool.{Bool, cond}
 use mathlib.Core.Path.{sym, ap, ◌∙◌}
 use Prim.Native.Nat.{ℕ, ◌%◌, suc}
 use borrow.Author.Rules.{rules}
-use Rattle.store.specs.Layout.{topMost}
+use Rattle.store.specs.Layout.{top_most}
 use Rattle.formula_codes.specs.Tree.{existing}
-use Rattle.formula_place.specs.Spots.{placesIn}
+use Rattle.formula_place.specs.Spots.{places_in}
 use Rattle.formula_place.proofs.cut.Statement.{statement}
 use Rattle.formula_place.proofs.cut.Tie as tie
 
@@ -21,12 +21,12 @@ returns c =
     let t = p.before in
     let a = t.before.args in
     c.existing.ensures ∙ ap (λ (x : ℕ). existing x a.i) p.places.ensures
-    ∙ ap (λ (b : Bool). cond b (existing (placesIn a.n (a.layer % suc topMost)) a.i) 0) (sym t.if1.true)
+    ∙ ap (λ (b : Bool). cond b (existing (places_in a.n (a.layer % suc top_most)) a.i) 0) (sym t.if1.true)
 
 returns-2 : tie.Need-returns-2
 returns-2 c =
     let a = c.before.args in
-    ap (λ (b : Bool). cond b (existing (placesIn a.n (a.layer % suc topMost)) a.i) 0) (sym c.if1.false)
+    ap (λ (b : Bool). cond b (existing (places_in a.n (a.layer % suc top_most)) a.i) 0) (sym c.if1.false)
 
 pub cut_spec : {M : Type 1} → statement M
 cut_spec = tie.close (tie.spec places-requires existing-requires returns returns-2)

@@ -4,8 +4,8 @@ use Prim.Native.Nat.{ℕ, suc, ◌+◌, ◌%◌, ◌<◌}
 use native.Mathlib.Numerals.{add-one}
 use native.Mathlib.Omega.{arith}
 use lib.ListN.{get_or}
-use Rattle.store.specs.Layout.{topMost}
-use Rattle.walk.specs.Walk.{firstBit, placeAt}
+use Rattle.store.specs.Layout.{top_most}
+use Rattle.walk.specs.Walk.{first_bit, place_at}
 use borrow.Author.Rules.{rules}
 use Rattle.formula_sink.proofs.below.Statement.{statement}
 use Rattle.formula_sink.proofs.below.Tie as tie
@@ -24,12 +24,12 @@ returns c =
     let p = c.before in
     let s = p.before in
     let a = s.args in
-    let m : (a.k + 1) % suc topMost ≡ suc a.k = omega (arith, s.requires.0) in
+    let m : (a.k + 1) % suc top_most ≡ suc a.k = omega (arith, s.requires.0) in
     record {
       low = s.requires.1 ∙ add-one a.k;
       small = s.requires.0;
       some = subst (λ (x : ℕ). 0 < get_or a.c.masks x 0) (add-one a.k) s.requires.2;
-      placed = subst (λ (x : ℕ). (p.place.result ≡ placeAt topMost a.c x) × (0 < get_or a.c.masks x 0 → firstBit a.c x < 64)) m p.place.ensures;
+      placed = subst (λ (x : ℕ). (p.place.result ≡ place_at top_most a.c x) × (0 < get_or a.c.masks x 0 → first_bit a.c x < 64)) m p.place.ensures;
       stands = c.spot.ensures;
     }
 

@@ -4,8 +4,8 @@ use mathlib.Core.Path.{refl}
 use borrow.Author.Rules.{rules}
 use Rattle.walk.proofs.Cursors.{lowers, lowers_at}
 use Rattle.formula_codes.specs.Tree.{four}
-use Rattle.formula_word.specs.Machine.{machineWord}
-use Rattle.formula_word.proofs.Words.{word-cut-is}
+use Rattle.formula_word.specs.Machine.{machine_word}
+use Rattle.formula_word.proofs.Words.{word_cut_is}
 use Rattle.formula_sink.proofs.read.Statement.{statement}
 use Rattle.formula_sink.proofs.read.Tie as tie
 
@@ -24,10 +24,10 @@ returns c =
     let x = w.before in
     let s = x.before.before.before.before.before.before in
     let a = s.args in
-    let lw = machineWord a.n (four a.s0.now a.s1.now a.s2.now a.s3.now) a.codes.now in
+    let lw = machine_word a.n (four a.s0.now a.s1.now a.s2.now a.s3.now) a.codes.now in
     let v = s.requires.0 in
     lowers_at v.low (λ i. refl) (lowers lw (omega arith) v.small v.some v.placed
-    (word-cut-is a.s0.now a.s1.now a.s2.now a.s3.now a.codes.now a.n _ _ v.stands s.requires.1 x.cut.ensures w.word_at.ensures)
+    (word_cut_is a.s0.now a.s1.now a.s2.now a.s3.now a.codes.now a.n _ _ v.stands s.requires.1 x.cut.ensures w.word_at.ensures)
     c.lower.ensures)
 
 pub read_spec : {M : Type 1} → statement M

@@ -4,17 +4,17 @@ use Rattle.formula_sink.specs.Steps.{Spotted, Wanted}
 use Prim.Native.Nat.{◌-◌}
 use native.Mathlib.Omega.{arith}
 use borrow.Author.Rules.{rules}
-use Rattle.store.specs.Layout.{topMost}
-use Rattle.walk.proofs.Cursors.{wants-at}
-use Rattle.walk.proofs.Turns.{Sinking, sink-start, sink-again, sink_rests, sink-spent}
+use Rattle.store.specs.Layout.{top_most}
+use Rattle.walk.proofs.Cursors.{wants_at}
+use Rattle.walk.proofs.Turns.{Sinking, sink_start, sink_again, sink_rests, sink_spent}
 use Rattle.formula_codes.specs.Tree.{four}
-use Rattle.formula_word.specs.Machine.{machineWord}
+use Rattle.formula_word.specs.Machine.{machine_word}
 use Rattle.formula_sink.proofs.sink.Statement.{statement}
 use Rattle.formula_sink.proofs.sink.Tie as tie
 
 abbrev invariant-loop : tie.invariant-loop
 invariant-loop codes n s0 s1 s2 s3 spent budget cuts c₀ reads₀ c reads =
-    Sinking (machineWord n (four s0 s1 s2 s3) codes) topMost budget spent c₀ c reads
+    Sinking (machine_word n (four s0 s1 s2 s3) codes) top_most budget spent c₀ c reads
 
 abbrev decreases-loop : tie.decreases-loop
 decreases-loop codes n s0 s1 s2 s3 spent budget cuts c₀ reads₀ c reads = budget - reads
@@ -23,7 +23,7 @@ cuts-requires : tie.Need-cuts-requires invariant-loop decreases-loop
 cuts-requires c κs = search rules
 
 loop-holds : tie.Need-loop-init invariant-loop decreases-loop
-loop-holds c = sink-start _ _ _ _ _
+loop-holds c = sink_start _ _ _ _ _
 
 wanted-requires : tie.Need-wanted-requires invariant-loop decreases-loop
 wanted-requires c κs = search rules
@@ -54,10 +54,10 @@ loop-again c =
     let p = c.before.before in
     let i = p.before.before.before in
     let s = spotted p in
-    sink-again i.before.loop.invariant (wants-at topMost i.before.loop.c s.low s.small) i.loop-test.true c.read.ensures
+    sink_again i.before.loop.invariant (wants_at top_most i.before.loop.c s.low s.small) i.loop-test.true c.read.ensures
 
 returns : tie.Need-returns invariant-loop decreases-loop
-returns c = sink-spent c.before.loop.invariant c.loop-test.false
+returns c = sink_spent c.before.loop.invariant c.loop-test.false
 
 returns-2 : tie.Need-returns-2 invariant-loop decreases-loop
 returns-2 c =

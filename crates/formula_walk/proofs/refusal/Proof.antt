@@ -1,5 +1,5 @@
 -- `refusal` meets its contract. Assumes nothing.
-use Rattle.formula_walk.proofs.Answers.{refusal-formula, refusal-cursor}
+use Rattle.formula_walk.proofs.Answers.{refusal_formula, refusal_cursor}
 use borrow.Author.Rules.{rules}
 use Rattle.formula_walk.proofs.refusal.Statement.{statement}
 use Rattle.formula_walk.proofs.refusal.Tie as tie
@@ -10,7 +10,7 @@ check-requires c κs = search rules
 returns : tie.Need-returns
 returns c =
     let a = c.before.before.before.before.before.before.before.args in
-    refusal-formula a.s0.now a.s1.now a.s2.now a.s3.now a.codes.now c.before.check.ensures a.c c.if1.true
+    refusal_formula a.s0.now a.s1.now a.s2.now a.s3.now a.codes.now c.before.check.ensures a.c c.if1.true
 
 named-requires : tie.Need-named-requires
 named-requires c κs = search rules
@@ -22,7 +22,7 @@ returns-2 : tie.Need-returns-2
 returns-2 c =
     let e = c.before.before in
     let a = e.before.before.before.before.before.before.before.args in
-    refusal-cursor a.s0.now a.s1.now a.s2.now a.s3.now a.codes.now e.before.check.ensures a.c e.if1.false c.before.named.ensures c.refusal.ensures
+    refusal_cursor a.s0.now a.s1.now a.s2.now a.s3.now a.codes.now e.before.check.ensures a.c e.if1.false c.before.named.ensures c.refusal.ensures
 
 pub refusal-spec : {M : Type 1} → statement M
 refusal-spec =

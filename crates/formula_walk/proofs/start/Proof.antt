@@ -1,5 +1,5 @@
 -- `start` meets its contract. Assumes nothing.
-use Rattle.formula_walk.proofs.Answers.{start-refused, formula-start-runs}
+use Rattle.formula_walk.proofs.Answers.{start_refused, formula_start_runs}
 use borrow.Author.Rules.{rules}
 use Rattle.formula_walk.proofs.start.Statement.{statement}
 use Rattle.formula_walk.proofs.start.Tie as tie
@@ -14,7 +14,7 @@ returns : tie.Need-returns
 returns c =
     let t = c.before in
     let a = t.before.before.before.before.before.before.before.args in
-    start-refused a.s0.now a.s1.now a.s2.now a.s3.now a.codes.now t.before.check.ensures a.c t.if1.true c.refused.ensures
+    start_refused a.s0.now a.s1.now a.s2.now a.s3.now a.codes.now t.before.check.ensures a.c t.if1.true c.refused.ensures
 
 named-requires : tie.Need-named-requires
 named-requires c κs = search rules
@@ -35,7 +35,7 @@ returns-2 c =
     let g = t.before in
     let e = g.before in
     let a = e.before.before.before.before.before.before.before.args in
-    formula-start-runs a.s0.now a.s1.now a.s2.now a.s3.now a.codes.now e.before.check.ensures a.c e.if1.false g.named.ensures t.top.ensures
+    formula_start_runs a.s0.now a.s1.now a.s2.now a.s3.now a.codes.now e.before.check.ensures a.c e.if1.false g.named.ensures t.top.ensures
     w.word.ensures c.begun.ensures
 
 pub start_spec : {M : Type 1} → statement M

@@ -4,7 +4,7 @@ use Prim.Native.Nat.{◌-◌}
 use native.Mathlib.Omega.{arith}
 use lib.ListN.{length}
 use Rattle.formula_word.specs.Steps.{Evaluating}
-use Rattle.formula_word.proofs.Arms.{evaluating-on, evaluating-done}
+use Rattle.formula_word.proofs.Arms.{evaluating_on, evaluating_done}
 use Rattle.formula_word.proofs.evaluate.Statement.{statement}
 use Rattle.formula_word.proofs.evaluate.Tie as tie
 
@@ -33,10 +33,10 @@ loop-less : tie.Need-loop-smaller invariant-loop decreases-loop
 loop-less c = let t = c.before.next-turn.ensures in omega (arith, t.on, t.within)
 
 loop-again : tie.Need-loop-preserved invariant-loop decreases-loop
-loop-again c = let n = c.before in evaluating-on n.before.before.before.loop.invariant n.next-turn.ensures
+loop-again c = let n = c.before in evaluating_on n.before.before.before.loop.invariant n.next-turn.ensures
 
 returns : tie.Need-returns invariant-loop decreases-loop
-returns c = evaluating-done c.before.loop.invariant c.loop-test.false
+returns c = evaluating_done c.before.loop.invariant c.loop-test.false
 
 pub evaluate-spec : {M : Type 1} → statement M
 evaluate-spec =

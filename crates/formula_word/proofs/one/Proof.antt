@@ -2,7 +2,7 @@
 use native.Mathlib.Omega.{arith}
 use borrow.Author.Rules.{rules}
 use lib.ListN.{length-set}
-use Rattle.formula_word.proofs.Arms.{turned-one}
+use Rattle.formula_word.proofs.Arms.{turned_one}
 use Rattle.formula_word.proofs.one.Statement.{statement}
 use Rattle.formula_word.proofs.one.Tie as tie
 
@@ -42,7 +42,7 @@ same_length c = search rules
 returns : tie.Need-returns
 returns c =
     let s = c.before.before.before.before.before.before in
-    turned-one _ _ _ _ _ _ _ _ s.requires.0 _ _ c.moves.ensures.0 c.before.made.ensures
+    turned_one _ _ _ _ _ _ _ _ s.requires.0 _ _ c.moves.ensures.0 c.before.made.ensures
 
 pub one_spec : {M : Type 1} → statement M
 one_spec =

@@ -3,7 +3,7 @@ use mathlib.Core.Path.{ap}
 use native.Mathlib.Omega.{arith}
 use borrow.Author.Rules.{rules}
 use lib.ListN.{length}
-use Rattle.formula_word.proofs.Arms.{evaluating-start, evaluating-on}
+use Rattle.formula_word.proofs.Arms.{evaluating_start, evaluating_on}
 use Rattle.formula_word.proofs.opening.Statement.{statement}
 use Rattle.formula_word.proofs.opening.Tie as tie
 
@@ -21,10 +21,10 @@ same_length c = search rules
 returns : tie.Need-returns
 returns c =
     let s = c.before.before.before.before.before.before.before.before in
-    evaluating-on (evaluating-start _ _ _ _ _ s.requires) c.before.before.three.ensures
+    evaluating_on (evaluating_start _ _ _ _ _ s.requires) c.before.before.three.ensures
 
 returns-2 : tie.Need-returns-2
-returns-2 c = evaluating-start _ _ _ _ _ c.before.before.before.before.requires
+returns-2 c = evaluating_start _ _ _ _ _ c.before.before.before.before.requires
 
 pub opening-spec : {M : Type 1} → statement M
 opening-spec = tie.close (tie.spec joins-requires three-requires same_length returns returns-2)

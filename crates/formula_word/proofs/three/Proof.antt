@@ -3,7 +3,7 @@ use mathlib.Core.Path.{refl}
 use native.Mathlib.Omega.{arith}
 use borrow.Author.Rules.{rules}
 use lib.ListN.{length-set}
-use Rattle.formula_word.proofs.Arms.{turned-three, turned-four}
+use Rattle.formula_word.proofs.Arms.{turned_three, turned_four}
 use Rattle.formula_word.proofs.three.Statement.{statement}
 use Rattle.formula_word.proofs.three.Tie as tie
 
@@ -98,7 +98,7 @@ returns : tie.Need-returns
 returns c =
     let t = c.before.before in
     let s = t.before.before.before.before.before.before.before.before.before.before in
-    turned-four _ _ _ _ _ _ _ _ s.requires.0 s.requires.1 s.requires.2 _ _ _ _ (t.before.joins-two.ensures t.if1.true) refl refl t.before.before.joined.ensures c.joined2.ensures
+    turned_four _ _ _ _ _ _ _ _ s.requires.0 s.requires.1 s.requires.2 _ _ _ _ (t.before.joins-two.ensures t.if1.true) refl refl t.before.before.joined.ensures c.joined2.ensures
 
 add-t18 : tie.Need-overflow-add-t18
 add-t18 c = search rules
@@ -110,7 +110,7 @@ returns-2 : tie.Need-returns-2
 returns-2 c =
     let j = c.before.before in
     let s = j.before.before.before.before.before.before.before.before in
-    turned-three _ _ _ _ _ _ _ _ s.requires.0 s.requires.1 s.requires.2 _ _ _ refl refl j.joined.ensures
+    turned_three _ _ _ _ _ _ _ _ s.requires.0 s.requires.1 s.requires.2 _ _ _ refl refl j.joined.ensures
 
 pub three-spec : {M : Type 1} → statement M
 three-spec =

@@ -1,6 +1,6 @@
 -- `word_at` meets its contract. Assumes nothing.
 use borrow.Author.Rules.{rules}
-use Rattle.formula_word.proofs.Words.{word-at-is}
+use Rattle.formula_word.proofs.Words.{word_at_is}
 use Rattle.formula_word.proofs.word_at.Statement.{statement}
 use Rattle.formula_word.proofs.word_at.Tie as tie
 
@@ -26,7 +26,7 @@ returns c =
     let g1 = g2.before in
     let g0 = g1.before in
     let a = g0.before.before.before.before.before.before.args in
-    word-at-is a.s0.now a.s1.now a.s2.now a.s3.now a.codes.now _ a.cut a.at
+    word_at_is a.s0.now a.s1.now a.s2.now a.s3.now a.codes.now _ a.cut a.at
     g0.get.ensures g1.get2.ensures g2.get3.ensures g3.get4.ensures c.evaluate.ensures
 
 pub word-at-spec : {M : Type 1} → statement M

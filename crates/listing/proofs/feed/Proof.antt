@@ -4,7 +4,7 @@ use Prim.Native.Nat.{◌+◌, ◌-◌, ◌≤◌, ◌<◌}
 use native.Mathlib.Omega.{arith}
 use borrow.Author.Rules.{rules}
 use lib.ListN.{length}
-use Rattle.text_in.proofs.Line.{line-goes-on}
+use Rattle.text_in.proofs.Line.{line_goes_on}
 use Rattle.listing_replies.specs.Replies.{Good}
 use Rattle.listing.proofs.feed.Statement.{statement}
 use Rattle.listing.proofs.feed.Tie as tie
@@ -29,7 +29,7 @@ step-requires c κs = search rules
 forward : (c : tie.After-gather-line invariant-loop decreases-loop)
     → (c.before.before.before.loop.i < c.gather-line.result.next)
     × (c.gather-line.result.next ≤ length c.before.before.before.before.before.before.before.before.args.piece.now)
-forward c = line-goes-on _ _ _ _ c.gather-line.ensures c.before.before.loop-test.true
+forward c = line_goes_on _ _ _ _ c.gather-line.ensures c.before.before.loop-test.true
 
 loop-less : tie.Need-loop-smaller invariant-loop decreases-loop
 loop-less c = omega (arith, forward c.before.before.before.before.before.before.before.before.before.before)

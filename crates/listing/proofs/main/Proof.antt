@@ -5,7 +5,7 @@ use Prim.Native.Nat.{◌+◌, ◌<◌, ◌^◌}
 use borrow.Author.Rules.{rules}
 use lib.ListN.{length}
 use Rattle.listing_replies.specs.Replies.{Good}
-use Rattle.listing_replies.proofs.Theorems.{good-open}
+use Rattle.listing_replies.proofs.Theorems.{good_open}
 use Rattle.listing.proofs.main.Statement.{statement}
 use Rattle.listing.proofs.main.Tie as tie
 
@@ -35,7 +35,7 @@ large-buffer-requires-2 c κs = search rules
 
 loop-holds : tie.Need-loop-init invariant-loop decreases-loop
 loop-holds c =
-    (search rules, search rules, search rules, search rules, search rules, good-open _ (search rules) c.before.before.before.open.ensures)
+    (search rules, search rules, search rules, search rules, search rules, good_open _ (search rules) c.before.before.before.open.ensures)
 
 slice-aggregate-fill : tie.Need-slice-aggregate-fill invariant-loop decreases-loop
 slice-aggregate-fill c = search rules

@@ -2,12 +2,12 @@
 use mathlib.Core.Path.{sym, ◌∙◌}
 use native.Mathlib.Omega.{arith}
 use borrow.Author.Rules.{rules}
-use Rattle.listing_line.proofs.Parsing.{Found, found, id-over, id-nothing, id-behind, id-whole}
+use Rattle.listing_line.proofs.Parsing.{Found, found, id_over, id_nothing, id-behind, id_whole}
 use Rattle.listing_line.proofs.read_id.Statement.{statement}
 use Rattle.listing_line.proofs.read_id.Tie as tie
 
 returns : tie.Need-returns
-returns c = id-over c.before.before.args.line.now c.if1.true
+returns c = id_over c.before.before.args.line.now c.if1.true
 
 number-requires : tie.Need-number-requires
 number-requires c κs = search rules
@@ -19,7 +19,7 @@ enum_told : tie.Need-enum-told
 enum_told c = search rules
 
 returns-2 : tie.Need-returns-2
-returns-2 c = id-nothing _ c.before.before.before.if1.false (sym c.enum_told.given.1 ∙ c.before.before.number.ensures)
+returns-2 c = id_nothing _ c.before.before.before.if1.false (sym c.enum_told.given.1 ∙ c.before.before.number.ensures)
 
 -- a number was read
 read : (c : tie.After-n) → Found c.before.before.before.before.before.args.line.now c.n.given.0.0 c.n.given.0.1.0
@@ -32,7 +32,7 @@ cast-t7 : tie.Need-overflow-cast-t7
 cast-t7 c = omega (arith, (read c.before.before).fits)
 
 returns-4 : tie.Need-returns-4
-returns-4 c = id-whole _ c.before.before.before.before.before.if1.false (read c.before.before) c.if2.false
+returns-4 c = id_whole _ c.before.before.before.before.before.if1.false (read c.before.before) c.if2.false
 
 pub read-id-spec : {M : Type 1} → statement M
 read-id-spec =

@@ -2,9 +2,9 @@
 use mathlib.Core.Path.{◌≡◌, sym, ap, ◌∙◌}
 use native.Mathlib.Omega.{arith}
 use borrow.Author.Rules.{rules}
-use Rattle.listing_line.specs.Line.{withId}
+use Rattle.listing_line.specs.Line.{with_id}
 use Rattle.listing_line.specs.declared.Id.TheVariants.{At}
-use Rattle.listing_line.proofs.Parsing.{with-bad, with-a, with-r, with-c, with-other}
+use Rattle.listing_line.proofs.Parsing.{with_bad, with_a, with_r, with_c, with_other}
 use Rattle.listing_line.proofs.with_id.Statement.{statement}
 use Rattle.listing_line.proofs.with_id.Tie as tie
 
@@ -15,24 +15,24 @@ enum_told : tie.Need-enum-told
 enum_told c = search rules
 
 returns : tie.Need-returns
-returns c = with-bad _ ∙ ap (withId _) (sym c.enum_told.given.1)
+returns c = with_bad _ ∙ ap (with_id _) (sym c.enum_told.given.1)
 
 -- the id is one
-id-is : (c : tie.After-id) → At c.id.given.0.0 ≡ c.before.before.args.id
-id-is c = sym c.id.given.1
+id_is : (c : tie.After-id) → At c.id.given.0.0 ≡ c.before.before.args.id
+id_is c = sym c.id.given.1
 
 returns-2 : tie.Need-returns-2
-returns-2 c = with-a _ _ c.match2.keys1 ∙ ap (withId _) (id-is c.before.before)
+returns-2 c = with_a _ _ c.match2.keys1 ∙ ap (with_id _) (id_is c.before.before)
 
 returns-3 : tie.Need-returns-3
-returns-3 c = with-r _ _ c.match2.keys2 ∙ ap (withId _) (id-is c.before.before)
+returns-3 c = with_r _ _ c.match2.keys2 ∙ ap (with_id _) (id_is c.before.before)
 
 returns-4 : tie.Need-returns-4
-returns-4 c = with-c _ _ c.match2.keys3 ∙ ap (withId _) (id-is c.before.before)
+returns-4 c = with_c _ _ c.match2.keys3 ∙ ap (with_id _) (id_is c.before.before)
 
 returns-5 : tie.Need-returns-5
 returns-5 c =
-    with-other _ _ (λ e. omega arith) (λ e. omega arith) (λ e. omega arith) ∙ ap (withId _) (id-is c.before.before)
+    with_other _ _ (λ e. omega arith) (λ e. omega arith) (λ e. omega arith) ∙ ap (with_id _) (id_is c.before.before)
 
 pub with-id-spec : {M : Type 1} → statement M
 with-id-spec =

@@ -2,7 +2,7 @@
 use Prim.Native.Nat.{◌-◌}
 use borrow.Author.Rules.{rules}
 use lib.ListN.{length}
-use Rattle.listing_members.proofs.Naming.{PuttingIds, ids-none, ids-turn, ids-end}
+use Rattle.listing_members.proofs.Naming.{PuttingIds, ids_none, ids_turn, ids_end}
 use Rattle.listing_members.proofs.put_ids.Statement.{statement}
 use Rattle.listing_members.proofs.put_ids.Tie as tie
 
@@ -13,7 +13,7 @@ abbrev decreases-loop : tie.decreases-loop
 decreases-loop buf₀ at ids a₀ i₀ buf a i = length ids - i
 
 loop-holds : tie.Need-loop-init invariant-loop decreases-loop
-loop-holds c = ids-none _ _ _
+loop-holds c = ids_none _ _ _
 
 mul-put-id : tie.Need-overflow-mul-put-id invariant-loop decreases-loop
 mul-put-id c = search rules
@@ -33,13 +33,13 @@ loop-less c = search rules
 loop-again : tie.Need-loop-preserved invariant-loop decreases-loop
 loop-again c =
     let n = c.before.before in
-    ids-turn n.before.before.before.before.loop.invariant (search rules) (search rules) n.put_id.ensures
+    ids_turn n.before.before.before.before.loop.invariant (search rules) (search rules) n.put_id.ensures
 
 same_length : tie.Need-same-length invariant-loop decreases-loop
 same_length c = search rules
 
 returns : tie.Need-returns invariant-loop decreases-loop
-returns c = ids-end c.before.loop.invariant (search rules)
+returns c = ids_end c.before.loop.invariant (search rules)
 
 pub put-ids-spec : {M : Type 1} → statement M
 put-ids-spec =

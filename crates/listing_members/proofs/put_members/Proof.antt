@@ -3,10 +3,10 @@ use mathlib.Core.Bool.{true}
 use mathlib.Core.Path.{◌≡◌, ap, ◌∙◌}
 use borrow.Author.Rules.{rules}
 use Rattle.store.specs.Layout.{is_store}
-use Rattle.store.proofs.Ends.{some-store, no_store}
-use Rattle.store.proofs.Geometry.{is-store}
-use Rattle.text_out.specs.Out.{putAllOf}
-use Rattle.listing_members.proofs.Naming.{line_refused, whole-line}
+use Rattle.store.proofs.Ends.{some_store, no_store}
+use Rattle.store.proofs.Geometry.{is_store_lem}
+use Rattle.text_out.specs.Out.{put_all_of}
+use Rattle.listing_members.proofs.Naming.{line_refused, whole_line}
 use Rattle.listing_members.proofs.put_members.Statement.{statement}
 use Rattle.listing_members.proofs.put_members.Tie as tie
 
@@ -27,17 +27,17 @@ returns c =
     let p = c.before.before in
     let t = p.before.before.before in
     let n = t.before in
-    p.put_all_lem.ensures ∙ ap (putAllOf _ _) (line_refused _ (no_store n.before.before.before.args.store.now n.capacity.ensures t.if1.true))
+    p.put_all_lem.ensures ∙ ap (put_all_of _ _) (line_refused _ (no_store n.before.before.before.args.store.now n.capacity.ensures t.if1.true))
 
 -- past the test the slice is a store
-store-here : (c : tie.Else1) → is_store c.before.before.before.before.args.store.now ≡ true
-store-here c = is-store (some-store c.before.before.before.before.args.store.now c.before.capacity.ensures c.if1.false)
+store_here : (c : tie.Else1) → is_store c.before.before.before.before.args.store.now ≡ true
+store_here c = is_store_lem (some_store c.before.before.before.before.args.store.now c.before.capacity.ensures c.if1.false)
 
 put-byte-requires : tie.Need-put-byte-requires
 put-byte-requires c κs = search rules
 
 put-walked-requires : tie.Need-put-walked-requires
-put-walked-requires c κs = store-here c.before.before.before.before.before
+put-walked-requires c κs = store_here c.before.before.before.before.before
 
 put-byte-requires-2 : tie.Need-put-byte-requires-2
 put-byte-requires-2 c κs = search rules
@@ -50,7 +50,7 @@ returns-2 c =
     let n = c.before.before in
     let w = n.before.before.before.before in
     let p = w.before.before.before.before in
-    whole-line _ _ _ (store-here p.before.before) p.put_byte.ensures w.put-walked.ensures n.put-byte2.ensures
+    whole_line _ _ _ (store_here p.before.before) p.put_byte.ensures w.put-walked.ensures n.put-byte2.ensures
 
 pub put-members-spec : {M : Type 1} → statement M
 put-members-spec =

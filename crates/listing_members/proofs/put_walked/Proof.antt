@@ -5,8 +5,8 @@ use native.Mathlib.Omega.{arith}
 use borrow.Author.Rules.{rules}
 use borrow.Author.Tests.{not-true, not-false}
 use Rattle.store.specs.Word.{Words64}
-use Rattle.walk_batches.proofs.Batches.{toGo, Turn, turn, batch-length, less-to-go}
-use Rattle.listing_members.proofs.Naming.{NamingFrom, naming-begins, all-put, naming-on}
+use Rattle.walk_batches.proofs.Batches.{to_go, Turn, turn, batch-length, less_to_go}
+use Rattle.listing_members.proofs.Naming.{NamingFrom, naming_begins, all-put, naming_on}
 use Rattle.listing_members.proofs.put_walked.Statement.{statement}
 use Rattle.listing_members.proofs.put_walked.Tie as tie
 
@@ -14,7 +14,7 @@ abbrev invariant-loop : tie.invariant-loop
 invariant-loop buf₀ at store ids₀ c₀ a₀ buf ids c a = NamingFrom store buf₀ at ids c buf a
 
 abbrev decreases-loop : tie.decreases-loop
-decreases-loop buf₀ at store ids₀ c₀ a₀ buf ids c a = toGo store c
+decreases-loop buf₀ at store ids₀ c₀ a₀ buf ids c a = to_go store c
 
 started-requires : tie.Need-started-requires invariant-loop decreases-loop
 started-requires c κs = search rules
@@ -26,7 +26,7 @@ words c x = (c.before.shared-slice-known.given x).fits
 loop-holds : tie.Need-loop-init invariant-loop decreases-loop
 loop-holds c =
     let s = c.before.before.before in
-    naming-begins s.args.store.now s.requires (words c) _ _ c.started.result (omega arith) c.started.ensures
+    naming_begins s.args.store.now s.requires (words c) _ _ c.started.result (omega arith) c.started.ensures
 
 slice-aggregate-fill : tie.Need-slice-aggregate-fill invariant-loop decreases-loop
 slice-aggregate-fill c = sym c.before.loop.invariant.stands.long
@@ -70,13 +70,13 @@ loop-less c =
     let e = c.before in
     let o = e.before in
     let f = o.before.before.before.before.before.before.before in
-    less-to-go (batch-here f) (omega arith) (sym o.goes_on.ensures ∙ not-false _ e.if1.false)
+    less_to_go (batch-here f) (omega arith) (sym o.goes_on.ensures ∙ not-false _ e.if1.false)
 
 loop-again : tie.Need-loop-preserved invariant-loop decreases-loop
 loop-again c =
     let p = c.before.before.before.before.before in
     let f = p.before.before.before.before in
-    naming-on f.before.before.loop.invariant (batch-here f) p.put-ids.ensures (search rules)
+    naming_on f.before.before.loop.invariant (batch-here f) p.put-ids.ensures (search rules)
 
 pub put-walked-spec : {M : Type 1} → statement M
 put-walked-spec =

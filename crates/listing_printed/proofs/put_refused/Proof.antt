@@ -1,8 +1,8 @@
 -- `put_refused` meets its contract. Assumes nothing.
 use mathlib.Core.Path.{sym, ap, ◌∙◌}
 use borrow.Author.Rules.{rules}
-use Rattle.text_out.specs.Out.{putAllOf}
-use Rattle.text_out.proofs.Out.{put-behind, puts-behind}
+use Rattle.text_out.specs.Out.{put_all_of}
+use Rattle.text_out.proofs.Out.{put-behind, puts_behind}
 use Rattle.listing_printed.proofs.Printing.{end_refused}
 use Rattle.listing_printed.proofs.put_refused.Statement.{statement}
 use Rattle.listing_printed.proofs.put_refused.Tie as tie
@@ -27,7 +27,7 @@ returns c =
     let p = c.before.before in
     let n = p.before.before.before.before in
     let w = n.before.before.before.before in
-    puts-behind _ _ _ _ w.put_all_lem.ensures (put-behind _ _ _ _ n.put-number.ensures p.put_byte.ensures) ∙ ap (putAllOf _ _) (sym (end_refused _ _))
+    puts_behind _ _ _ _ w.put_all_lem.ensures (put-behind _ _ _ _ n.put-number.ensures p.put_byte.ensures) ∙ ap (put_all_of _ _) (sym (end_refused _ _))
 
 pub put-refused-spec : {M : Type 1} → statement M
 put-refused-spec =

@@ -1,10 +1,10 @@
 -- `put_reply` meets its contract. Assumes nothing.
 use mathlib.Core.Path.{sym, ap, ◌∙◌}
 use borrow.Author.Rules.{rules}
-use Rattle.text_out.specs.Out.{putAllOf}
-use Rattle.text_out.proofs.Out.{puts-behind}
-use Rattle.listing_printed.specs.Reply.{endText}
-use Rattle.listing_printed.proofs.Printing.{reply-is}
+use Rattle.text_out.specs.Out.{put_all_of}
+use Rattle.text_out.proofs.Out.{puts_behind}
+use Rattle.listing_printed.specs.Reply.{end_text}
+use Rattle.listing_printed.proofs.Printing.{reply_is}
 use Rattle.listing_printed.proofs.put_reply.Statement.{statement}
 use Rattle.listing_printed.proofs.put_reply.Tie as tie
 
@@ -31,7 +31,7 @@ returns c =
     let w = c.before.before in
     let m = w.before.before.before in
     let f = m.before.before.before.before in
-    puts-behind _ _ _ _ f.put_front.ensures (w.put_word.ensures ∙ ap (putAllOf _ _) (ap (endText _) (sym m.answer.given.1))) ∙ ap (putAllOf _ _) (sym (reply-is _ _ _))
+    puts_behind _ _ _ _ f.put_front.ensures (w.put_word.ensures ∙ ap (put_all_of _ _) (ap (end_text _) (sym m.answer.given.1))) ∙ ap (put_all_of _ _) (sym (reply_is _ _ _))
 
 same-length-2 : tie.Need-same-length-2
 same-length-2 c = search rules
@@ -41,7 +41,7 @@ returns-2 c =
     let w = c.before.before in
     let m = w.before.before.before in
     let f = m.before.before.before.before in
-    puts-behind _ _ _ _ f.put_front.ensures (w.Put-refused.ensures ∙ ap (putAllOf _ _) (ap (endText _) (sym m.answer2.given.1))) ∙ ap (putAllOf _ _) (sym (reply-is _ _ _))
+    puts_behind _ _ _ _ f.put_front.ensures (w.Put-refused.ensures ∙ ap (put_all_of _ _) (ap (end_text _) (sym m.answer2.given.1))) ∙ ap (put_all_of _ _) (sym (reply_is _ _ _))
 
 pub put-reply-spec : {M : Type 1} → statement M
 put-reply-spec =

@@ -2,9 +2,9 @@
 use mathlib.Core.Path.{sym, ap, ◌∙◌, subst}
 use native.Mathlib.Omega.{arith}
 use borrow.Author.Rules.{rules}
-use Rattle.text_out.specs.Out.{putAllOf}
-use Rattle.listing_printed.specs.Reply.{replyWord}
-use Rattle.listing_printed.proofs.Printing.{InSpan, in_span, end-word}
+use Rattle.text_out.specs.Out.{put_all_of}
+use Rattle.listing_printed.specs.Reply.{reply_word}
+use Rattle.listing_printed.proofs.Printing.{InSpan, in_span, end_word}
 use Rattle.listing_printed.proofs.put_word.Statement.{statement}
 use Rattle.listing_printed.proofs.put_word.Tie as tie
 
@@ -15,8 +15,8 @@ slice-aggregate-words : tie.Need-slice-aggregate-words
 slice-aggregate-words c = search rules
 
 -- the word's place
-here : (c : tie.After-place) → let a = c.before.before.args in InSpan (replyWord a.letter a.yes) c.place.result
-here c = let a = c.before.before.args in subst (InSpan (replyWord a.letter a.yes)) (sym c.place.ensures) (in_span a.letter a.yes)
+here : (c : tie.After-place) → let a = c.before.before.args in InSpan (reply_word a.letter a.yes) c.place.result
+here c = let a = c.before.before.args in subst (InSpan (reply_word a.letter a.yes)) (sym c.place.ensures) (in_span a.letter a.yes)
 
 sub-put-all : tie.Need-overflow-sub-put-all
 sub-put-all c = (here c.before.before).from-to
@@ -36,7 +36,7 @@ same_length c = search rules
 returns : tie.Need-returns
 returns c =
     let p = c.before.before in
-    p.put_all_lem.ensures ∙ ap (putAllOf _ _) ((here p.before.before.before.before).has ∙ sym (end-word _ _))
+    p.put_all_lem.ensures ∙ ap (put_all_of _ _) ((here p.before.before.before.before).has ∙ sym (end_word _ _))
 
 pub put-word-spec : {M : Type 1} → statement M
 put-word-spec =

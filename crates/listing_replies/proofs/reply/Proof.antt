@@ -1,8 +1,8 @@
 -- `reply` meets its contract. Assumes nothing.
 use mathlib.Core.Path.{refl, ap, ◌∙◌}
 use borrow.Author.Rules.{rules}
-use Rattle.text_out.specs.Out.{putAllOf}
-use Rattle.listing_replies.proofs.Printing.{reply-printed, arm}
+use Rattle.text_out.specs.Out.{put_all_of}
+use Rattle.listing_replies.proofs.Printing.{reply_printed, arm}
 use Rattle.listing_replies.proofs.reply.Statement.{statement}
 use Rattle.listing_replies.proofs.reply.Tie as tie
 
@@ -55,7 +55,7 @@ returns : tie.Need-returns
 returns c =
     let p = c.before.before in
     let a = p.before.before.before in
-    arm _ _ _ _ a.before.before.before.before.c.given.1 (p.put-reply.ensures ∙ ap (putAllOf _ _) (reply-printed _ _ a.add.ensures)) a.add.ensures.memory
+    arm _ _ _ _ a.before.before.before.before.c.given.1 (p.put-reply.ensures ∙ ap (put_all_of _ _) (reply_printed _ _ a.add.ensures)) a.add.ensures.memory
 
 same-length-3 : tie.Need-same-length-3
 same-length-3 c = search rules
@@ -67,7 +67,7 @@ returns-2 : tie.Need-returns-2
 returns-2 c =
     let p = c.before.before in
     let a = p.before.before.before in
-    arm _ _ _ _ a.before.before.before.before.c2.given.1 (p.put-reply2.ensures ∙ ap (putAllOf _ _) (reply-printed _ _ a.remove.ensures)) a.remove.ensures.memory
+    arm _ _ _ _ a.before.before.before.before.c2.given.1 (p.put-reply2.ensures ∙ ap (put_all_of _ _) (reply_printed _ _ a.remove.ensures)) a.remove.ensures.memory
 
 same-length-5 : tie.Need-same-length-5
 same-length-5 c = search rules
@@ -79,7 +79,7 @@ returns-3 : tie.Need-returns-3
 returns-3 c =
     let p = c.before.before in
     let a = p.before in
-    arm _ _ _ _ a.before.before.before.before.c3.given.1 (p.put-reply3.ensures ∙ ap (putAllOf _ _) (reply-printed _ _ a.contains.ensures)) refl
+    arm _ _ _ _ a.before.before.before.before.c3.given.1 (p.put-reply3.ensures ∙ ap (put_all_of _ _) (reply_printed _ _ a.contains.ensures)) refl
 
 same-length-7 : tie.Need-same-length-7
 same-length-7 c = search rules

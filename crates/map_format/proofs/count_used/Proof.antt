@@ -3,9 +3,9 @@ use Prim.Native.Nat.{◌-◌}
 use native.Mathlib.Omega.{arith}
 use borrow.Author.Rules.{rules}
 use lib.ListN.{get_or}
-use Rattle.store.proofs.Build.{flag-lt}
-use Rattle.summary_word.proofs.Gathered.{flag-byte}
-use Rattle.map_format.proofs.Used.{Counted, counted_start, counted-turn, counted-end}
+use Rattle.store.proofs.Build.{flag_lt}
+use Rattle.summary_word.proofs.Gathered.{flag_byte}
+use Rattle.map_format.proofs.Used.{Counted, counted_start, counted_turn, counted_end}
 use Rattle.map_format.proofs.count_used.Statement.{statement}
 use Rattle.map_format.proofs.count_used.Tie as tie
 
@@ -36,7 +36,7 @@ cast-n-2 c = search rules
 add-n : tie.Need-overflow-add-n invariant-loop decreases-loop
 add-n c =
     let a = c.before.before in
-    omega (arith, a.loop.invariant.small, a.before.requires, c.before.loop-test.true, flag-byte (get_or a.before.args.layer.now a.loop.q 0), flag-lt (get_or a.before.args.layer.now a.loop.q 0))
+    omega (arith, a.loop.invariant.small, a.before.requires, c.before.loop-test.true, flag_byte (get_or a.before.args.layer.now a.loop.q 0), flag_lt (get_or a.before.args.layer.now a.loop.q 0))
 
 add-q : tie.Need-overflow-add-q invariant-loop decreases-loop
 add-q c = search rules
@@ -45,10 +45,10 @@ loop-less : tie.Need-loop-smaller invariant-loop decreases-loop
 loop-less c = omega (arith, c.before.loop-test.true)
 
 loop-again : tie.Need-loop-preserved invariant-loop decreases-loop
-loop-again c = counted-turn c.before.before.loop.invariant c.before.loop-test.true
+loop-again c = counted_turn c.before.before.loop.invariant c.before.loop-test.true
 
 returns : tie.Need-returns invariant-loop decreases-loop
-returns c = counted-end c.before.loop.invariant c.before.before.requires c.loop-test.false
+returns c = counted_end c.before.loop.invariant c.before.before.requires c.loop-test.false
 
 pub count-used-spec : {M : Type 1} → statement M
 count-used-spec =

@@ -3,7 +3,7 @@ use mathlib.Core.Path.{ap}
 use Prim.Native.Nat.{ℕ}
 use borrow.Author.Rules.{rules}
 use lib.Dec.{leb}
-use Rattle.map_format.proofs.Used.{room-for-all}
+use Rattle.map_format.proofs.Used.{room_for_all}
 use Rattle.map_format.proofs.map_fits.Statement.{statement}
 use Rattle.map_format.proofs.map_fits.Tie as tie
 
@@ -14,7 +14,7 @@ add-if1 : tie.Need-overflow-add-if1
 add-if1 c = search rules
 
 returns : tie.Need-returns
-returns c = let a = c.before.before.args in room-for-all a.layer.now a.last a.bytes c.if1.true
+returns c = let a = c.before.before.args in room_for_all a.layer.now a.last a.bytes c.if1.true
 
 map-length-requires : tie.Need-map-length-requires
 map-length-requires c κs = search rules

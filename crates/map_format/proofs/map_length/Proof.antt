@@ -4,7 +4,7 @@ use Prim.Native.Nat.{ℕ, ◌+◌, ◌*◌, ◌≤◌}
 use native.Mathlib.Omega.{arith}
 use borrow.Author.Rules.{rules}
 use lib.ListN.{length}
-use Rattle.map_format.proofs.Used.{used-few, length_none}
+use Rattle.map_format.proofs.Used.{used_few, length_none}
 use Rattle.map_format.proofs.map_length.Statement.{statement}
 use Rattle.map_format.proofs.map_length.Tie as tie
 
@@ -15,7 +15,7 @@ count-used-requires : tie.Need-count-used-requires
 count-used-requires c κs = search rules
 
 few : (c : tie.After-count-used) → c.count-used.result ≤ length c.before.before.before.args.layer.now
-few c = let a = c.before.before.before.args in omega (arith, c.count-used.ensures, used-few a.layer.now a.last)
+few c = let a = c.before.before.before.args in omega (arith, c.count-used.ensures, used_few a.layer.now a.last)
 
 mul-result : tie.Need-overflow-mul-result
 mul-result c = omega (arith, few c)

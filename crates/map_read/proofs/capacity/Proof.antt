@@ -4,9 +4,9 @@ use mathlib.Core.Path.{◌≡◌, sym, ◌∙◌}
 use native.Mathlib.Omega.{arith}
 use borrow.Author.Rules.{rules}
 use borrow.Author.Tests.{not-true, not-false}
-use Rattle.map_read.specs.Judge.{headOk}
-use Rattle.map_read.proofs.Answers.{capacity-9, capacity-named}
-use Rattle.map_read.proofs.Right.{head-is}
+use Rattle.map_read.specs.Judge.{head_ok}
+use Rattle.map_read.proofs.Answers.{capacity_9, capacity_named}
+use Rattle.map_read.proofs.Right.{head_is}
 use Rattle.map_read.proofs.capacity.Statement.{statement}
 use Rattle.map_read.proofs.capacity.Tie as tie
 
@@ -16,17 +16,17 @@ head-ok-requires c κs = search rules
 returns : tie.Need-returns
 returns c =
     let h = c.before in
-    capacity-9 h.before.before.args.map.now (sym h.head_ok.ensures ∙ not-true _ c.if1.true)
+    capacity_9 h.before.before.args.map.now (sym h.head_ok.ensures ∙ not-true _ c.if1.true)
 
 -- past the test the header is one
-known : (c : tie.Else1) → headOk c.before.before.before.args.map.now ≡ true
+known : (c : tie.Else1) → head_ok c.before.before.before.args.map.now ≡ true
 known c = sym c.before.head_ok.ensures ∙ not-false _ c.if1.false
 
 get-requires : tie.Need-get-requires
-get-requires c κs = (omega (arith, (head-is (known c)).long), omega arith)
+get-requires c κs = (omega (arith, (head_is (known c)).long), omega arith)
 
 returns-2 : tie.Need-returns-2
-returns-2 c = let k = c.before in capacity-named k.before.before.before.args.map.now (known k) c.get.ensures
+returns-2 c = let k = c.before in capacity_named k.before.before.before.args.map.now (known k) c.get.ensures
 
 pub capacity_spec : {M : Type 1} → statement M
 capacity_spec = tie.close (tie.spec head-ok-requires returns get-requires returns-2)

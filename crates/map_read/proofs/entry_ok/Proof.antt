@@ -9,13 +9,13 @@ use Rattle.util.proofs.Bits.{shl_one}
 use Rattle.store.specs.Build.{room0}
 use Rattle.store.specs.Layout.{words, room}
 use Rattle.store.proofs.Ends.{words_are}
-use Rattle.map_read.specs.Judge.{entryOk}
-use Rattle.map_read.proofs.Right.{no-entry, entry-last}
+use Rattle.map_read.specs.Judge.{entry_ok}
+use Rattle.map_read.proofs.Right.{no_entry, entry_last}
 use Rattle.map_read.proofs.entry_ok.Statement.{statement}
 use Rattle.map_read.proofs.entry_ok.Tie as tie
 
 returns : tie.Need-returns
-returns c = let a = c.before.args in no-entry a.n a.lo a.q a.x (λ z. omega (arith, z.rising))
+returns c = let a = c.before.args in no_entry a.n a.lo a.q a.x (λ z. omega (arith, z.rising))
 
 words-for-requires : tie.Need-words-for-requires
 words-for-requires c κs = search rules
@@ -25,10 +25,10 @@ asked c = let s = c.before.before in c.words-for.ensures ∙ words_are s.args.n 
 
 returns-2 : tie.Need-returns-2
 unfolding room
-returns-2 c = let a = c.before.before.before.args in no-entry a.n a.lo a.q a.x (λ z. omega (arith, z.below, asked c.before, c.if2.true))
+returns-2 c = let a = c.before.before.before.args in no_entry a.n a.lo a.q a.x (λ z. omega (arith, z.below, asked c.before, c.if2.true))
 
 returns-3 : tie.Need-returns-3
-returns-3 c = let a = c.before.before.before.before.args in no-entry a.n a.lo a.q a.x (λ z. omega (arith, z.some))
+returns-3 c = let a = c.before.before.before.before.args in no_entry a.n a.lo a.q a.x (λ z. omega (arith, z.some))
 
 -- past the second test the number is below the layer's words
 below : (c : tie.Else2) → let a = c.before.before.before.args in a.q < words a.n
@@ -44,12 +44,12 @@ shl-result : tie.Need-overflow-shl-result
 shl-result c = search rules
 
 -- past the first three tests the last one decides
-last : (c : tie.Else3) → let a = c.before.before.before.before.args in ltb a.x (2 ^ room0 a.n a.q) ≡ entryOk a.n a.lo a.q a.x
+last : (c : tie.Else3) → let a = c.before.before.before.before.args in ltb a.x (2 ^ room0 a.n a.q) ≡ entry_ok a.n a.lo a.q a.x
 unfolding room
 last c =
     let l = c.before.before.before in
     let a = l.before.args in
-    entry-last a.n a.lo a.q a.x (omega (arith, l.if1.false)) (omega (arith, below c.before)) (omega (arith, c.if3.false))
+    entry_last a.n a.lo a.q a.x (omega (arith, l.if1.false)) (omega (arith, below c.before)) (omega (arith, c.if3.false))
 
 returns-4 : tie.Need-returns-4
 returns-4 c =

@@ -2,7 +2,7 @@
 use Prim.Native.Nat.{◌+◌, ◌-◌, ◌<◌, ◌^◌}
 use native.Mathlib.Omega.{arith}
 use lib.ListN.{get_or}
-use Rattle.map_read.proofs.Loops.{Got, got-start, got-room, got-turn, got-end}
+use Rattle.map_read.proofs.Loops.{Got, got_start, got_room, got_turn, got_end}
 use Rattle.map_read.proofs.get.Statement.{statement}
 use Rattle.map_read.proofs.get.Tie as tie
 
@@ -13,7 +13,7 @@ abbrev decreases-loop : tie.decreases-loop
 decreases-loop map o n i₀ x₀ i x = i
 
 loop-holds : tie.Need-loop-init invariant-loop decreases-loop
-loop-holds c = let a = c.args in got-start a.map.now a.o a.n
+loop-holds c = let a = c.args in got_start a.map.now a.o a.n
 
 sub-i : tie.Need-overflow-sub-i invariant-loop decreases-loop
 sub-i c = omega (arith, c.loop-test.true)
@@ -23,7 +23,7 @@ add_at c = let s = c.before.before in omega (arith, s.requires.0, c.before.loop.
 
 -- the number so far leaves room for one byte more
 room : (c : tie.In-loop invariant-loop decreases-loop) → c.before.loop.x < 2 ^ 56
-room c = got-room c.before.loop.invariant c.before.before.requires.1 c.loop-test.true
+room c = got_room c.before.loop.invariant c.before.before.requires.1 c.loop-test.true
 
 byte : (c : tie.After-shared-slice-known invariant-loop decreases-loop)
     → let l = c.before.before in
@@ -50,10 +50,10 @@ loop-less c = omega (arith, c.before.loop-test.true)
 loop-again : tie.Need-loop-preserved invariant-loop decreases-loop
 loop-again c =
     let i = c.before in
-    got-turn i.before.loop.invariant i.loop-test.true i.before.before.requires.0 (byte c)
+    got_turn i.before.loop.invariant i.loop-test.true i.before.before.requires.0 (byte c)
 
 returns : tie.Need-returns invariant-loop decreases-loop
-returns c = got-end c.before.loop.invariant c.loop-test.false
+returns c = got_end c.before.loop.invariant c.loop-test.false
 
 pub get_spec : {M : Type 1} → statement M
 get_spec =

@@ -7,15 +7,15 @@ use borrow.Author.Rules.{rules}
 use borrow.Author.Tests.{not-true, not-false}
 use lib.Dec.{leb}
 use lib.ListN.{length}
-use Rattle.store.specs.Layout.{maxCap, isCap, words, room}
-use Rattle.store.proofs.Ends.{cap-in, words_are}
-use Rattle.map_read.specs.Judge.{capIn}
-use Rattle.map_read.proofs.Right.{no-head, head-last}
+use Rattle.store.specs.Layout.{max_cap, is_cap, words, room}
+use Rattle.store.proofs.Ends.{cap_in_lem, words_are}
+use Rattle.map_read.specs.Judge.{cap_in}
+use Rattle.map_read.proofs.Right.{no_head, head_last}
 use Rattle.map_read.proofs.head_ok.Statement.{statement}
 use Rattle.map_read.proofs.head_ok.Tie as tie
 
 returns : tie.Need-returns
-returns c = no-head c.before.before.args.map.now (λ z. omega (arith, z.long, c.if1.true))
+returns c = no_head c.before.before.args.map.now (λ z. omega (arith, z.long, c.if1.true))
 
 get-requires : tie.Need-get-requires
 get-requires c κs = search rules
@@ -32,30 +32,30 @@ is-capacity-requires c κs = search rules
 -- the answer of the capacity test
 answered : (c : tie.After-is-capacity)
     → let g = c.before.before.before in
-    c.is-capacity.result ≡ isCap (capIn g.before.before.before.args.map.now)
-answered c = let g = c.before.before.before in c.is-capacity.ensures ∙ ap isCap g.get.ensures
+    c.is-capacity.result ≡ is_cap (cap_in g.before.before.before.args.map.now)
+answered c = let g = c.before.before.before in c.is-capacity.ensures ∙ ap is_cap g.get.ensures
 
 returns-2 : tie.Need-returns-2
 returns-2 c =
     let k = c.before in
     let g = k.before.before.before in
-    no-head g.before.before.before.args.map.now
+    no_head g.before.before.before.args.map.now
     (λ z. true≢false (sym z.capacity ∙ sym (answered k) ∙ not-true _ c.if2.true))
 
-known : (c : tie.Else2) → let g = c.before.before.before.before in isCap (capIn g.before.before.before.args.map.now) ≡ true
+known : (c : tie.Else2) → let g = c.before.before.before.before in is_cap (cap_in g.before.before.before.args.map.now) ≡ true
 known c = sym (answered c.before) ∙ not-false _ c.if2.false
 
 returns-3 : tie.Need-returns-3
 returns-3 c =
     let g2 = c.before.before.before.before in
-    no-head g2.before.before.before.before.args.map.now (λ z. omega (arith, z.offset, g2.get2.ensures, c.if3.true))
+    no_head g2.before.before.before.before.args.map.now (λ z. omega (arith, z.offset, g2.get2.ensures, c.if3.true))
 
 words-for-requires : tie.Need-words-for-requires
 words-for-requires c κs = search rules
 
 -- past the capacity test the numbers are small
-within : (c : tie.Else2) → let n = c.before.before.before.before.get.result in (1 ≤ n) × (n ≤ maxCap)
-within c = cap-in _ (ap isCap c.before.before.before.before.get.ensures ∙ known c)
+within : (c : tie.Else2) → let n = c.before.before.before.before.get.result in (1 ≤ n) × (n ≤ max_cap)
+within c = cap_in_lem _ (ap is_cap c.before.before.before.before.get.ensures ∙ known c)
 
 asked : (c : tie.After-words-for)
     → let g = c.before.before.before.before.before.before in
@@ -70,10 +70,10 @@ returns-4 c =
     let w = c.before in
     let g3 = w.before.before.before.before in
     let g = g3.before.before in
-    no-head g.before.before.before.args.map.now (λ z. omega (arith, z.few, g.get.ensures, g3.get3.ensures, asked w, c.if4.true))
+    no_head g.before.before.before.args.map.now (λ z. omega (arith, z.few, g.get.ensures, g3.get3.ensures, asked w, c.if4.true))
 
 -- past the last test there are no more entries than words
-few : (c : tie.Else4) → c.before.before.before.before.before.get3.result ≤ words maxCap
+few : (c : tie.Else4) → c.before.before.before.before.before.get3.result ≤ words max_cap
 few c = omega (arith, asked c.before, (within c.before.before.before).1, c.if4.false)
 
 mul-result : tie.Need-overflow-mul-result
@@ -93,7 +93,7 @@ returns-5 c =
     let g = g2.before in
     let l = g.before in
     ap (λ (u : ℕ). leb (16 + 12 * u) (length l.before.before.args.map.now)) g3.get3.ensures
-    ∙ head-last l.before.before.args.map.now l.if1.false (known k) (omega (arith, g2.get2.ensures, o.if3.false))
+    ∙ head_last l.before.before.args.map.now l.if1.false (known k) (omega (arith, g2.get2.ensures, o.if3.false))
     (omega (arith, g.get.ensures, g3.get3.ensures, asked w, c.if4.false))
 
 pub head-ok-spec : {M : Type 1} → statement M

@@ -6,10 +6,10 @@ use native.Mathlib.Omega.{arith}
 use borrow.Author.Rules.{rules}
 use borrow.Author.Tests.{not-true, not-false}
 use lib.Count.{ones, ones-le}
-use Rattle.store.specs.Layout.{maxCap, words, room}
-use Rattle.map_read.specs.Judge.{entryOk}
-use Rattle.map_read.proofs.Loops.{Entry, Judged, judged-start, judged-turn, judged-bad, judged-good, judged-sum}
-use Rattle.map_read.proofs.Right.{entry-is, table-0, table-11}
+use Rattle.store.specs.Layout.{max_cap, words, room}
+use Rattle.map_read.specs.Judge.{entry_ok}
+use Rattle.map_read.proofs.Loops.{Entry, Judged, judged_start, judged_turn, judged_bad, judged_good, judged_sum}
+use Rattle.map_read.proofs.Right.{entry_is, table_0, table_11}
 use Rattle.map_read.proofs.judge_table.Statement.{statement}
 use Rattle.map_read.proofs.judge_table.Tie as tie
 
@@ -20,10 +20,10 @@ abbrev decreases-loop : tie.decreases-loop
 decreases-loop table n used members lo₀ ones₀ j₀ lo ones j = used - j
 
 loop-holds : tie.Need-loop-init invariant-loop decreases-loop
-loop-holds c = judged-start
+loop-holds c = judged_start
 
 -- there are no more entries than words
-few : (c : tie.Start invariant-loop decreases-loop) → c.args.used ≤ words maxCap
+few : (c : tie.Start invariant-loop decreases-loop) → c.args.used ≤ words max_cap
 unfolding room
 few c = omega (arith, c.requires.few, c.requires.most)
 
@@ -57,13 +57,13 @@ returns c =
     let k = c.before in
     let g = k.before in
     let i = g.before.before in
-    judged-bad i.before.loop.invariant (entry g) i.before.before.before.args.members (sym k.entry-ok.ensures ∙ not-true _ c.if1.true)
+    judged_bad i.before.loop.invariant (entry g) i.before.before.before.args.members (sym k.entry-ok.ensures ∙ not-true _ c.if1.true)
 
 -- what is known past a good entry
 is-good : (c : tie.Else1 invariant-loop decreases-loop)
     → let g = c.before.before in
     let i = g.before.before in
-    entryOk i.before.before.before.args.n i.before.loop.lo g.before.get.result g.get2.result ≡ true
+    entry_ok i.before.before.before.args.n i.before.loop.lo g.before.get.result g.get2.result ≡ true
 is-good c = sym c.before.entry-ok.ensures ∙ not-false _ c.if1.false
 
 word_fits : (c : tie.Else1 invariant-loop decreases-loop) → c.before.before.get2.result < 2 ^ 64
@@ -81,7 +81,7 @@ add-lo : tie.Need-overflow-add-lo invariant-loop decreases-loop
 unfolding room
 add-lo c =
     let i = c.before.before.before.before in
-    omega (arith, (entry-is (is-good c)).below, i.before.before.before.requires.most)
+    omega (arith, (entry_is (is-good c)).below, i.before.before.before.requires.most)
 
 add-j : tie.Need-overflow-add-j invariant-loop decreases-loop
 add-j c = let i = c.before.before.before.before in omega (arith, i.loop-test.true, few i.before.before.before)
@@ -92,21 +92,21 @@ loop-less c = omega (arith, c.before.before.before.before.loop-test.true)
 loop-again : tie.Need-loop-preserved invariant-loop decreases-loop
 loop-again c =
     let g = c.before.before in
-    judged-turn g.before.before.before.loop.invariant (entry g) (word_fits c) (is-good c)
+    judged_turn g.before.before.before.loop.invariant (entry g) (word_fits c) (is-good c)
 
 returns-2 : tie.Need-returns-2 invariant-loop decreases-loop
 returns-2 c =
     let l = c.before in
     let h = l.before.loop.invariant in
     let a = l.before.before.before.args in
-    table-0 a.n a.used a.members a.table.now (judged-good h l.loop-test.false) (omega (arith, judged-sum h l.loop-test.false, c.if2.true))
+    table_0 a.n a.used a.members a.table.now (judged_good h l.loop-test.false) (omega (arith, judged_sum h l.loop-test.false, c.if2.true))
 
 returns-3 : tie.Need-returns-3 invariant-loop decreases-loop
 returns-3 c =
     let l = c.before in
     let h = l.before.loop.invariant in
     let a = l.before.before.before.args in
-    table-11 a.n a.used a.members a.table.now (judged-good h l.loop-test.false) (λ e. omega (arith, c.if2.false, judged-sum h l.loop-test.false, e))
+    table_11 a.n a.used a.members a.table.now (judged_good h l.loop-test.false) (λ e. omega (arith, c.if2.false, judged_sum h l.loop-test.false, e))
 
 pub judge-table-spec : {M : Type 1} → statement M
 judge-table-spec =

@@ -3,7 +3,7 @@ use Prim.Native.Nat.{◌+◌, ◌-◌, ◌*◌, ◌≤◌}
 use native.Mathlib.Omega.{arith}
 use borrow.Author.Rules.{rules}
 use lib.ListN.{length}
-use Rattle.map_read.proofs.Loops.{EntriesAt, placed-start, placed-turn, placed_end}
+use Rattle.map_read.proofs.Loops.{EntriesAt, placed_start, placed_turn, placed_end}
 use Rattle.map_read.proofs.place.Statement.{statement}
 use Rattle.map_read.proofs.place.Tie as tie
 
@@ -14,7 +14,7 @@ abbrev decreases-loop : tie.decreases-loop
 decreases-loop layer₀ table used j₀ layer j = used - j
 
 loop-holds : tie.Need-loop-init invariant-loop decreases-loop
-loop-holds c = placed-start
+loop-holds c = placed_start
 
 -- the entry at hand stands in the table, and the table in memory
 inside : (c : tie.In-loop invariant-loop decreases-loop) → 12 * c.before.loop.j + 12 ≤ length c.before.before.before.before.args.table.now
@@ -47,7 +47,7 @@ loop-again c =
     let g2 = p.before.before in
     let g = g2.before in
     let i = g.before in
-    placed-turn i.before.loop.invariant (record { inside = i.loop-test.true; number = g.get.ensures; word = g2.get2.ensures })
+    placed_turn i.before.loop.invariant (record { inside = i.loop-test.true; number = g.get.ensures; word = g2.get2.ensures })
     p.put.new.0 p.put.ensures
 
 same_length : tie.Need-same-length invariant-loop decreases-loop

@@ -2,8 +2,8 @@
 use native.Mathlib.Omega.{arith}
 use borrow.Author.Rules.{rules}
 use Rattle.store.specs.Layout.{StoreOf}
-use Rattle.store.proofs.Ends.{some-store, no_store}
-use Rattle.map_read.proofs.Answers.{read-2, read_no, read_done}
+use Rattle.store.proofs.Ends.{some_store, no_store}
+use Rattle.map_read.proofs.Answers.{read_2, read_no, read_done}
 use Rattle.map_read.proofs.read.Statement.{statement}
 use Rattle.map_read.proofs.read.Tie as tie
 
@@ -17,11 +17,11 @@ returns : tie.Need-returns
 returns c =
     let y = c.before in
     let a = y.before.before.before.before.args in
-    read-2 a.map.now a.store.now (no_store a.store.now y.capacity.ensures c.if1.true)
+    read_2 a.map.now a.store.now (no_store a.store.now y.capacity.ensures c.if1.true)
 
 -- past the first test the slice is a store
-store-here : (c : tie.Else1) → StoreOf c.before.capacity.result c.before.before.before.before.before.args.store.now
-store-here c = some-store c.before.before.before.before.before.args.store.now c.before.capacity.ensures c.if1.false
+store_here : (c : tie.Else1) → StoreOf c.before.capacity.result c.before.before.before.before.before.args.store.now
+store_here c = some_store c.before.before.before.before.before.args.store.now c.before.capacity.ensures c.if1.false
 
 judge-requires : tie.Need-judge-requires
 judge-requires c κs = search rules
@@ -33,13 +33,13 @@ returns-2 : tie.Need-returns-2
 returns-2 c =
     let j = c.before in
     let a = j.before.before.before.before.before.before.args in
-    read_no a.map.now (store-here j.before) j.judge.result j.judge.ensures (λ e. omega (arith, c.if2.true, e))
+    read_no a.map.now (store_here j.before) j.judge.result j.judge.ensures (λ e. omega (arith, c.if2.true, e))
 
 replace-requires : tie.Need-replace-requires
 replace-requires c κs =
     let e = c.before in
     let j = e.before in
-    record { store = store-here j.before; accepted = omega (arith, j.judge.ensures, e.if2.false) }
+    record { store = store_here j.before; accepted = omega (arith, j.judge.ensures, e.if2.false) }
 
 same-length-3 : tie.Need-same-length-3
 same-length-3 c = search rules
@@ -50,7 +50,7 @@ returns-3 c =
     let e = r.before.before in
     let j = e.before in
     let a = j.before.before.before.before.before.before.args in
-    read_done a.map.now (store-here j.before) r.replace.new.1.0 (omega (arith, j.judge.ensures, e.if2.false)) r.replace.ensures
+    read_done a.map.now (store_here j.before) r.replace.new.1.0 (omega (arith, j.judge.ensures, e.if2.false)) r.replace.ensures
 
 pub read_spec : {M : Type 1} → statement M
 read_spec =

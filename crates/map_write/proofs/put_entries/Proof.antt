@@ -3,19 +3,19 @@ use mathlib.Core.Path.{refl}
 use Prim.Native.Nat.{◌+◌, ◌-◌}
 use native.Mathlib.Omega.{arith}
 use borrow.Author.Rules.{rules}
-use Rattle.map_write.specs.Steps.{draftAt, Rooms}
-use Rattle.map_write.proofs.Entries.{Entering, entering-start, entering-room, entering-turn, entering-end, entered-long, word_room, word-entered}
+use Rattle.map_write.specs.Steps.{draft_at, Rooms}
+use Rattle.map_write.proofs.Entries.{Entering, entering_start, entering_room, entering_turn, entering_end, entered_long, word_room, word_entered}
 use Rattle.map_write.proofs.put_entries.Statement.{statement}
 use Rattle.map_write.proofs.put_entries.Tie as tie
 
 abbrev invariant-loop : tie.invariant-loop
-invariant-loop layer q n buf₀ at sum members₀ o₀ i₀ buf members o i = Entering layer q n (draftAt at sum buf₀) i (draftAt o members buf)
+invariant-loop layer q n buf₀ at sum members₀ o₀ i₀ buf members o i = Entering layer q n (draft_at at sum buf₀) i (draft_at o members buf)
 
 abbrev decreases-loop : tie.decreases-loop
 decreases-loop layer q n buf₀ at sum members₀ o₀ i₀ buf members o i = n - i
 
 loop-holds : tie.Need-loop-init invariant-loop decreases-loop
-loop-holds c = entering-start c.before.before.requires
+loop-holds c = entering_start c.before.before.requires
 
 add-k : tie.Need-overflow-add-k invariant-loop decreases-loop
 add-k c = search rules
@@ -30,11 +30,11 @@ shared-slice-read-put-entry c = search rules
 here : (c : tie.In-loop invariant-loop decreases-loop)
     → let l = c.before.loop in
     let a = c.before.before.before.before.args in
-    Rooms a.layer.now (a.q + l.i) 1 (draftAt l.o l.members l.buf)
+    Rooms a.layer.now (a.q + l.i) 1 (draft_at l.o l.members l.buf)
 here c =
     let s = c.before.before.before.before in
     let i = c.before.loop.i in
-    entering-room s.requires c.before.loop.invariant 1 (s.args.q + i) (i + 1) (omega (arith, c.loop-test.true)) refl refl
+    entering_room s.requires c.before.loop.invariant 1 (s.args.q + i) (i + 1) (omega (arith, c.loop-test.true)) refl refl
 
 put-entry-requires : tie.Need-put-entry-requires invariant-loop decreases-loop
 put-entry-requires c κs = word_room (here c.before.before)
@@ -51,13 +51,13 @@ loop-again c =
     let t = p.before.before.before in
     let l = t.before in
     let s = l.before.before.before in
-    entering-turn s.requires l.loop.invariant 1 (s.args.q + l.loop.i) (l.loop.i + 1) (omega (arith, t.loop-test.true)) refl refl (word-entered (here t) p.put-entry.ensures)
+    entering_turn s.requires l.loop.invariant 1 (s.args.q + l.loop.i) (l.loop.i + 1) (omega (arith, t.loop-test.true)) refl refl (word_entered (here t) p.put-entry.ensures)
 
 same_length : tie.Need-same-length invariant-loop decreases-loop
-same_length c = entered-long c.before.loop.invariant.done
+same_length c = entered_long c.before.loop.invariant.done
 
 returns : tie.Need-returns invariant-loop decreases-loop
-returns c = entering-end c.before.before.before.before.requires c.before.loop.invariant c.loop-test.false
+returns c = entering_end c.before.before.before.before.requires c.before.loop.invariant c.loop-test.false
 
 pub put-entries-spec : {M : Type 1} → statement M
 put-entries-spec =

@@ -8,12 +8,12 @@ use lib.Count.{ones, ones-le}
 use lib.ListN.{length}
 use lib.Seq.{sets, length-sets}
 use Rattle.map_format.specs.Bytes.{le}
-use Rattle.map_write.proofs.Entries.{entered-zero, entered-one, room-one}
+use Rattle.map_write.proofs.Entries.{entered_zero, entered_one, room-one}
 use Rattle.map_write.proofs.put_entry.Statement.{statement}
 use Rattle.map_write.proofs.put_entry.Tie as tie
 
 returns : tie.Need-returns
-returns c = entered-zero c.if1.true
+returns c = entered_zero c.if1.true
 
 -- a word that is not zero has room
 here : (c : tie.Else1) → c.before.before.args.o + 12 ≤ length c.before.before.args.buf.now
@@ -55,7 +55,7 @@ returns-2 c =
     let n = p1.before.before in
     let s = n.before.before in
     let a = s.args in
-    entered-one n.if1.false (omega (arith, s.ranges.x)) (p2.put-number2.ensures ∙ ap (λ (x : List ℕ). sets x (a.o + 4) (le 8 a.x)) p1.put-number.ensures)
+    entered_one n.if1.false (omega (arith, s.ranges.x)) (p2.put-number2.ensures ∙ ap (λ (x : List ℕ). sets x (a.o + 4) (le 8 a.x)) p1.put-number.ensures)
 
 pub put-entry-spec : {M : Type 1} → statement M
 put-entry-spec =

@@ -1,6 +1,6 @@
 -- `put_four` meets its contract. Assumes nothing.
 use borrow.Author.Rules.{rules}
-use Rattle.map_write.proofs.Entries.{entered-four}
+use Rattle.map_write.proofs.Entries.{entered_four}
 use Rattle.map_write.proofs.put_four.Statement.{statement}
 use Rattle.map_write.proofs.put_four.Tie as tie
 
@@ -38,7 +38,7 @@ shared-slice-read-if1-4 : tie.Need-shared-slice-read-if1-4
 shared-slice-read-if1-4 c = search rules
 
 returns : tie.Need-returns
-returns c = entered-four c.before.before.before.before.before.before.before.requires c.if1.true
+returns c = entered_four c.before.before.before.before.before.before.before.requires c.if1.true
 
 put-entries-requires : tie.Need-put-entries-requires
 put-entries-requires c κs = search rules

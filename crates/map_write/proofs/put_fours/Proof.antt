@@ -2,19 +2,19 @@
 use Prim.Native.Nat.{◌+◌, ◌-◌, ◌*◌}
 use native.Mathlib.Omega.{arith}
 use borrow.Author.Rules.{rules}
-use Rattle.map_write.specs.Steps.{draftAt}
-use Rattle.map_write.proofs.Entries.{Entering, entering-start, entering-room, entering-turn, entering-end, entered-long}
+use Rattle.map_write.specs.Steps.{draft_at}
+use Rattle.map_write.proofs.Entries.{Entering, entering_start, entering_room, entering_turn, entering_end, entered_long}
 use Rattle.map_write.proofs.put_fours.Statement.{statement}
 use Rattle.map_write.proofs.put_fours.Tie as tie
 
 abbrev invariant-loop : tie.invariant-loop
-invariant-loop layer fours buf₀ members₀ o₀ k₀ buf members o k = Entering layer 0 (4 * fours) (draftAt 16 0 buf₀) (4 * k) (draftAt o members buf)
+invariant-loop layer fours buf₀ members₀ o₀ k₀ buf members o k = Entering layer 0 (4 * fours) (draft_at 16 0 buf₀) (4 * k) (draft_at o members buf)
 
 abbrev decreases-loop : tie.decreases-loop
 decreases-loop layer fours buf₀ members₀ o₀ k₀ buf members o k = fours - k
 
 loop-holds : tie.Need-loop-init invariant-loop decreases-loop
-loop-holds c = entering-start c.before.before.requires
+loop-holds c = entering_start c.before.before.requires
 
 mul-put-four : tie.Need-overflow-mul-put-four invariant-loop decreases-loop
 mul-put-four c = search rules
@@ -24,7 +24,7 @@ put-four-requires c κs =
     let t = c.before in
     let s = t.before.before.before.before in
     let k = t.before.loop.k in
-    entering-room s.requires t.before.loop.invariant 4 (4 * k) (4 * (k + 1)) (omega (arith, t.loop-test.true)) (omega arith) (omega arith)
+    entering_room s.requires t.before.loop.invariant 4 (4 * k) (4 * (k + 1)) (omega (arith, t.loop-test.true)) (omega arith) (omega arith)
 
 add-k : tie.Need-overflow-add-k invariant-loop decreases-loop
 add-k c = search rules
@@ -38,13 +38,13 @@ loop-again c =
     let t = p.before.before in
     let s = t.before.before.before.before in
     let k = t.before.loop.k in
-    entering-turn s.requires t.before.loop.invariant 4 (4 * k) (4 * (k + 1)) (omega (arith, t.loop-test.true)) (omega arith) (omega arith) p.put_four.ensures
+    entering_turn s.requires t.before.loop.invariant 4 (4 * k) (4 * (k + 1)) (omega (arith, t.loop-test.true)) (omega arith) (omega arith) p.put_four.ensures
 
 same_length : tie.Need-same-length invariant-loop decreases-loop
-same_length c = entered-long c.before.loop.invariant.done
+same_length c = entered_long c.before.loop.invariant.done
 
 returns : tie.Need-returns invariant-loop decreases-loop
-returns c = entering-end c.before.before.before.before.requires c.before.loop.invariant (omega (arith, c.loop-test.false))
+returns c = entering_end c.before.before.before.before.requires c.before.loop.invariant (omega (arith, c.loop-test.false))
 
 pub put-fours-spec : {M : Type 1} → statement M
 put-fours-spec =

@@ -5,7 +5,7 @@ use Prim.Native.Nat.{ℕ}
 use borrow.Author.Rules.{rules}
 use lib.Seq.{sets}
 use Rattle.map_format.specs.Bytes.{le}
-use Rattle.map_write.proofs.Bytes.{head-sets}
+use Rattle.map_write.proofs.Bytes.{head_sets}
 use Rattle.map_write.proofs.put_head.Statement.{statement}
 use Rattle.map_write.proofs.put_head.Tie as tie
 
@@ -35,7 +35,7 @@ returns c =
     ∙ ap (λ (x : List ℕ). sets x 12 (le 4 16)) (p3.put-number3.ensures
     ∙ ap (λ (x : List ℕ). sets x 8 (le 4 a.used)) (p2.put-number2.ensures
     ∙ ap (λ (x : List ℕ). sets x 4 (le 4 a.members)) p1.put-number.ensures))
-    ∙ head-sets a.buf.now a.n a.members a.used
+    ∙ head_sets a.buf.now a.n a.members a.used
 
 pub put-head-spec : {M : Type 1} → statement M
 put-head-spec = tie.close (tie.spec put-number-requires put-number-requires-2 put-number-requires-3 put-number-requires-4 same_length returns)

@@ -2,7 +2,7 @@
 use Prim.Native.Nat.{◌-◌, ◌*◌, ◌/◌}
 use borrow.Author.Rules.{rules}
 use lib.ListN.{length}
-use Rattle.map_write.proofs.Entries.{fours-in, fours-room, rest-room, last-room, map-done}
+use Rattle.map_write.proofs.Entries.{fours_in, fours_room, rest_room, last_room, map_done}
 use Rattle.map_write.proofs.put_map.Statement.{statement}
 use Rattle.map_write.proofs.put_map.Tie as tie
 
@@ -16,7 +16,7 @@ put-fours-requires : tie.Need-put-fours-requires
 put-fours-requires c κs =
     let s = c.before.before.before in
     let n = length s.args.layer.now - 1 in
-    fours-room s.requires (4 * (n / 4)) (fours-in n)
+    fours_room s.requires (4 * (n / 4)) (fours_in n)
 
 sub-put-entries : tie.Need-overflow-sub-put-entries
 sub-put-entries c = search rules
@@ -26,7 +26,7 @@ put-entries-requires c κs =
     let f = c.before.before.before in
     let s = f.before.before.before.before in
     let n = length s.args.layer.now - 1 in
-    rest-room s.requires (4 * (n / 4)) (fours-in n) f.put-fours.ensures
+    rest_room s.requires (4 * (n / 4)) (fours_in n) f.put-fours.ensures
 
 put-entry-requires : tie.Need-put-entry-requires
 put-entry-requires c κs =
@@ -34,7 +34,7 @@ put-entry-requires c κs =
     let f = r.before.before.before.before in
     let s = f.before.before.before.before in
     let n = length s.args.layer.now - 1 in
-    last-room s.requires (4 * (n / 4)) (fours-in n) f.put-fours.ensures r.put_entries.ensures
+    last_room s.requires (4 * (n / 4)) (fours_in n) f.put-fours.ensures r.put_entries.ensures
 
 sub-put-head : tie.Need-overflow-sub-put-head
 sub-put-head c = search rules
@@ -53,7 +53,7 @@ returns c =
     let f = r.before.before.before.before in
     let s = f.before.before.before.before in
     let n = length s.args.layer.now - 1 in
-    map-done s.requires (4 * (n / 4)) (fours-in n) f.put-fours.ensures r.put_entries.ensures e.put-entry.ensures s.args.n h.put-head.ensures
+    map_done s.requires (4 * (n / 4)) (fours_in n) f.put-fours.ensures r.put_entries.ensures e.put-entry.ensures s.args.n h.put-head.ensures
 
 pub put-map-spec : {M : Type 1} → statement M
 put-map-spec =

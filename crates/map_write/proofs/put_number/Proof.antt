@@ -2,7 +2,7 @@
 use Prim.Native.Nat.{◌-◌}
 use native.Mathlib.Omega.{arith}
 use borrow.Author.Rules.{rules}
-use Rattle.map_write.proofs.Loops.{Put, put-start, put-turn, put-end}
+use Rattle.map_write.proofs.Loops.{Put, put_start, put_turn, put_end}
 use Rattle.map_write.proofs.put_number.Statement.{statement}
 use Rattle.map_write.proofs.put_number.Tie as tie
 
@@ -13,7 +13,7 @@ abbrev decreases-loop : tie.decreases-loop
 decreases-loop buf₀ o n x i₀ y₀ buf i y = n - i
 
 loop-holds : tie.Need-loop-init invariant-loop decreases-loop
-loop-holds c = put-start
+loop-holds c = put_start
 
 add_at : tie.Need-overflow-add-at invariant-loop decreases-loop
 add_at c = search rules
@@ -31,13 +31,13 @@ loop-less : tie.Need-loop-smaller invariant-loop decreases-loop
 loop-less c = omega (arith, c.loop-test.true)
 
 loop-again : tie.Need-loop-preserved invariant-loop decreases-loop
-loop-again c = put-turn c.before.loop.invariant c.loop-test.true
+loop-again c = put_turn c.before.loop.invariant c.loop-test.true
 
 same_length : tie.Need-same-length invariant-loop decreases-loop
 same_length c = c.before.loop.invariant.long
 
 returns : tie.Need-returns invariant-loop decreases-loop
-returns c = put-end c.before.loop.invariant c.loop-test.false
+returns c = put_end c.before.loop.invariant c.loop-test.false
 
 pub put-number-spec : {M : Type 1} → statement M
 put-number-spec =

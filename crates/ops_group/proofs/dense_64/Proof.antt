@@ -3,8 +3,8 @@ use mathlib.Core.Path.{ap, ◌∙◌}
 use borrow.Author.Rules.{rules}
 use lib.ListN.{length}
 use Rattle.ops_group.specs.Group.{all}
-use Rattle.ops_group.proofs.Loops.{flags-whole}
-use Rattle.ops_group.proofs.Named.{length-named}
+use Rattle.ops_group.proofs.Loops.{flags_whole}
+use Rattle.ops_group.proofs.Named.{length_named}
 use Rattle.ops_group.proofs.dense_64.Statement.{statement}
 use Rattle.ops_group.proofs.dense_64.Tie as tie
 
@@ -22,7 +22,7 @@ returns c =
     let g = c.before.before.before.before in
     let s = g.before.before.before.before in
     let a = s.args in
-    (g.merge-64.ensures, flags-whole g.merge-64.new.0 (ap length g.merge-64.ensures ∙ length-named a.op all 0 a.part.now a.other.now ∙ s.requires.0) c.gather.ensures)
+    (g.merge-64.ensures, flags_whole g.merge-64.new.0 (ap length g.merge-64.ensures ∙ length_named a.op all 0 a.part.now a.other.now ∙ s.requires.0) c.gather.ensures)
 
 pub dense-64-spec : {M : Type 1} → statement M
 dense-64-spec = tie.close (tie.spec merge-64-requires gather-requires same_length returns)

@@ -7,16 +7,16 @@ use borrow.Author.Tests.{eq-eqb, ne_eqb, lt-leb, leb-true}
 use lib.Dec.{leb}
 use Rattle.util.specs.Word.{count}
 use Rattle.util.proofs.Count.{count_ones}
-use Rattle.ops_group.specs.Group.{isDense}
+use Rattle.ops_group.specs.Group.{is_dense}
 use Rattle.ops_group.proofs.is_dense.Statement.{statement}
 use Rattle.ops_group.proofs.is_dense.Tie as tie
 
 returns : tie.Need-returns
-unfolding isDense
+unfolding is_dense
 returns c = rw (ne_eqb c.before.args.n 64 c.if1.true)
 
 returns-2 : tie.Need-returns-2
-unfolding isDense
+unfolding is_dense
 returns-2 c =
     let s = c.before.before in
     rw (eq-eqb s.args.n 64 c.before.if1.false, ne_eqb s.args.l 64 c.if2.true)
@@ -25,7 +25,7 @@ is-few-requires : tie.Need-is-few-requires
 is-few-requires c κs = search rules
 
 returns-3 : tie.Need-returns-3
-unfolding isDense
+unfolding is_dense
 returns-3 c =
     let f = c.before in
     let t = f.before in
@@ -34,7 +34,7 @@ returns-3 c =
     rw (eq-eqb s.args.n 64 t.before.if1.false, eq-eqb s.args.l 64 t.if2.false, lt-leb 12 (count s.args.m) (omega (arith, few)))
 
 returns-4 : tie.Need-returns-4
-unfolding isDense
+unfolding is_dense
 returns-4 c =
     let f = c.before in
     let t = f.before in

@@ -24,12 +24,12 @@ drop-lowest-requires-3 c κs = search rules
 
 -- three steps that leave nothing are three set bits or fewer
 few : (m a b r : ℕ) → m < 2 ^ 64 → a ≡ m - 2 ^ count_trailing_zeros 64 m → b ≡ a - 2 ^ count_trailing_zeros 64 a → r ≡ b - 2 ^ count_trailing_zeros 64 b → eqb r 0 ≡ leb (count m) 3
-few m a b r h a-is b-is r-is = go (ℕ_discrete r 0)
+few m a b r h a_is b_is r-is = go (ℕ_discrete r 0)
   where
     three : count r ≡ count m - 1 - 1 - 1
     three =
         ap count r-is ∙ count_less b (omega arith)
-        ∙ ap (λ (x : ℕ). x - 1) (ap count b-is ∙ count_less a (omega arith) ∙ ap (λ (x : ℕ). x - 1) (ap count a-is ∙ count_less m h))
+        ∙ ap (λ (x : ℕ). x - 1) (ap count b_is ∙ count_less a (omega arith) ∙ ap (λ (x : ℕ). x - 1) (ap count a_is ∙ count_less m h))
 
     go : Dec (r ≡ 0) → eqb r 0 ≡ leb (count m) 3
     go (yes e) = eq-eqb r 0 e ∙ sym (le-leb (count m) 3 (omega (arith, three, (count_none r (omega arith)).0 e)))

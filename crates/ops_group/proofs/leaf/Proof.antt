@@ -5,7 +5,7 @@ use native.Mathlib.Omega.{arith}
 use borrow.Author.Rules.{rules}
 use lib.ListN.{length, get_or, set, get_or-eq_default}
 use lib.Seq.{get_or-set_same, set_out}
-use Rattle.ops_word.specs.Op.{opWord}
+use Rattle.ops_word.specs.Op.{op_word}
 use Rattle.ops_group.proofs.leaf.Statement.{statement}
 use Rattle.ops_group.proofs.leaf.Tie as tie
 
@@ -34,7 +34,7 @@ returns : tie.Need-returns
 returns c =
     let a = c.before.before.before.before.before.before.args in
     let xs = a.part.now in
-    let e = c.combine.ensures ∙ ap (opWord a.op (get_or xs a.t 0)) c.before.get.ensures in
+    let e = c.combine.ensures ∙ ap (op_word a.op (get_or xs a.t 0)) c.before.get.ensures in
     (ap (set xs a.t) e, sym (get_or-set_same xs a.t c.combine.result 0 c.before.before.before.if1.true))
 
 returns-2 : tie.Need-returns-2

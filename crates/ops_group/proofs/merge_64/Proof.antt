@@ -4,7 +4,7 @@ use native.Mathlib.Numerals.{add-one}
 use native.Mathlib.Omega.{arith}
 use borrow.Author.Rules.{rules}
 use Rattle.ops_group.specs.Group.{Merging}
-use Rattle.ops_group.proofs.Loops.{merging_start, merging-turn, merging-end}
+use Rattle.ops_group.proofs.Loops.{merging_start, merging_turn, merging_end}
 use Rattle.ops_group.proofs.merge_64.Statement.{statement}
 use Rattle.ops_group.proofs.merge_64.Tie as tie
 
@@ -48,7 +48,7 @@ loop-again : tie.Need-loop-preserved invariant-loop decreases-loop
 loop-again c =
     let d = c.before.before.before in
     let h = d.before in
-    rw add-one (merging-turn h.before.before.before.requires.0 d.loop-test.true h.loop.invariant c.combine.ensures)
+    rw add-one (merging_turn h.before.before.before.requires.0 d.loop-test.true h.loop.invariant c.combine.ensures)
 
 same_length : tie.Need-same-length invariant-loop decreases-loop
 same_length c = c.before.loop.invariant.long
@@ -56,7 +56,7 @@ same_length c = c.before.loop.invariant.long
 returns : tie.Need-returns invariant-loop decreases-loop
 returns c =
     let h = c.before in
-    merging-end h.before.before.before.requires.0 (omega (arith, c.loop-test.false)) h.loop.invariant
+    merging_end h.before.before.before.requires.0 (omega (arith, c.loop-test.false)) h.loop.invariant
 
 pub merge-64-spec : {M : Type 1} → statement M
 merge-64-spec =

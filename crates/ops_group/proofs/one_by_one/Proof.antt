@@ -4,7 +4,7 @@ use borrow.Author.Rules.{rules}
 use lib.Count.{count_trailing_zeros, trailing_le}
 use Rattle.util.proofs.Places.{Lowest, lowest}
 use Rattle.ops_group.specs.Group.{Naming}
-use Rattle.ops_group.proofs.Loops.{naming-start, naming-turn, naming-words, naming-over, taken-off, less-left}
+use Rattle.ops_group.proofs.Loops.{naming_start, naming_turn, naming_words, naming_over, taken_off, less-left}
 use Rattle.ops_group.proofs.one_by_one.Statement.{statement}
 use Rattle.ops_group.proofs.one_by_one.Tie as tie
 
@@ -19,7 +19,7 @@ low : (c : tie.In-loop invariant-loop decreases-loop) → Lowest c.before.loop.l
 low c = lowest c.before.loop.left c.before.loop.invariant.few (omega (arith, c.loop-test.true))
 
 loop-holds : tie.Need-loop-init invariant-loop decreases-loop
-loop-holds c = let s = c.before.before in naming-start _ _ _ _ _ s.ranges.w.fits s.ranges.m.fits
+loop-holds c = let s = c.before.before in naming_start _ _ _ _ _ s.ranges.w.fits s.ranges.m.fits
 
 cast_t : tie.Need-overflow-cast-t invariant-loop decreases-loop
 cast_t c = record { fits = omega (arith, trailing_le 64 c.before.loop.left) }
@@ -36,21 +36,21 @@ drop-lowest-requires c κs = search rules
 loop-less : tie.Need-loop-smaller invariant-loop decreases-loop
 loop-less c =
     let i = c.before.before.before.before.before.before in
-    less-left (low i).inside (low i).on (taken-off i.before.loop.invariant.few (low i).inside (low i).on c.drop-lowest.ensures)
+    less-left (low i).inside (low i).on (taken_off i.before.loop.invariant.few (low i).inside (low i).on c.drop-lowest.ensures)
 
 loop-again : tie.Need-loop-preserved invariant-loop decreases-loop
 loop-again c =
     let w = c.before in
     let l = w.before.before.before in
     let i = l.before.before in
-    naming-turn i.before.loop.invariant (low i).inside (low i).on l.leaf.ensures.0 l.leaf.ensures.1 w.with-bit.ensures
-    (taken-off i.before.loop.invariant.few (low i).inside (low i).on c.drop-lowest.ensures)
+    naming_turn i.before.loop.invariant (low i).inside (low i).on l.leaf.ensures.0 l.leaf.ensures.1 w.with-bit.ensures
+    (taken_off i.before.loop.invariant.few (low i).inside (low i).on c.drop-lowest.ensures)
 
 same_length : tie.Need-same-length invariant-loop decreases-loop
 same_length c = c.before.loop.invariant.long
 
 returns : tie.Need-returns invariant-loop decreases-loop
-returns c = let h = c.before.loop.invariant in (naming-words h c.loop-test.false, naming-over h c.loop-test.false)
+returns c = let h = c.before.loop.invariant in (naming_words h c.loop-test.false, naming_over h c.loop-test.false)
 
 pub one-by-one-spec : {M : Type 1} → statement M
 one-by-one-spec =

@@ -1,6 +1,6 @@
 -- `sparse` meets its contract. Assumes nothing.
 use borrow.Author.Rules.{rules}
-use Rattle.ops_group.proofs.Loops.{same_op, op-equal, op-else}
+use Rattle.ops_group.proofs.Loops.{same_op, op_equal, op_else}
 use Rattle.ops_group.proofs.sparse.Statement.{statement}
 use Rattle.ops_group.proofs.sparse.Tie as tie
 
@@ -15,7 +15,7 @@ returns c =
     let e = c.before.before in
     let d = e.before.before in
     let a = d.before.before.before.args in
-    same_op a.op 16 a.w a.m a.part.now a.other.now (op-equal a.op 16 d.if1.true) e.one_by_one.ensures
+    same_op a.op 16 a.w a.m a.part.now a.other.now (op_equal a.op 16 d.if1.true) e.one_by_one.ensures
 
 one-by-one-requires-2 : tie.Need-one-by-one-requires-2
 one-by-one-requires-2 c κs = search rules
@@ -28,7 +28,7 @@ returns-2 c =
     let e = c.before.before in
     let d = e.before.before in
     let a = d.before.before.before.before.args in
-    same_op a.op 17 a.w a.m a.part.now a.other.now (op-equal a.op 17 d.if2.true) e.one-by-one2.ensures
+    same_op a.op 17 a.w a.m a.part.now a.other.now (op_equal a.op 17 d.if2.true) e.one-by-one2.ensures
 
 one-by-one-requires-3 : tie.Need-one-by-one-requires-3
 one-by-one-requires-3 c κs = search rules
@@ -41,7 +41,7 @@ returns-3 c =
     let e = c.before.before in
     let d = e.before.before in
     let a = d.before.before.before.before.args in
-    same_op a.op 18 a.w a.m a.part.now a.other.now (op-else a.op d.before.if1.false d.if2.false) e.one-by-one3.ensures
+    same_op a.op 18 a.w a.m a.part.now a.other.now (op_else a.op d.before.if1.false d.if2.false) e.one-by-one3.ensures
 
 pub sparse-spec : {M : Type 1} → statement M
 sparse-spec =

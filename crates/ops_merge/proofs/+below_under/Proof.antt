@@ -15,13 +15,13 @@ use Rattle.store.proofs.get.Reads as get-reads
 use Rattle.store.proofs.put.Reads as put_reads
 use Rattle.store.proofs.start.Reads as start-reads
 use Rattle.ops_word.proofs.moving.Reads as moving-reads
-use Rattle.ops_group.proofs.Loops.{taken-off, less-left}
+use Rattle.ops_group.proofs.Loops.{taken_off, less-left}
 use Rattle.ops_merge.specs.Tree.{MergeAt, Level}
 use Rattle.ops_merge.proofs.+below_under.{statement}
 use Rattle.ops_merge.proofs.+below_under.Lts-below as lts
 use Rattle.ops_merge.proofs.+below_under.Lts-under as under-lts
 use Rattle.ops_merge.proofs.+below_under.Tie.{close}
-use Rattle.ops_merge.proofs.Steps.{level-start, level-end, small-ask, ask-child, part-inside, ordered, near, inside_both, level-turn, ask-zero, level-zero}
+use Rattle.ops_merge.proofs.Steps.{level_start, level_end, small_ask, ask_child, part_inside, ordered, near, inside_both, level_turn, ask_zero, level_zero}
 use Rattle.ops_merge.proofs.below.Kinds as below-kinds
 use Rattle.ops_merge.proofs.below.Reads as below
 use Rattle.ops_merge.proofs.leaves.Reads as leaves-reads
@@ -80,13 +80,13 @@ D t = (leaves-reads.Asked, leaves-reads.Learnt, Less t, below.Post)
 -- ---- `under`
 
 leaves-requires : (t : ℕ) → under-lts.Need-leaves-requires (D t) (Under-at t) under.Post
-leaves-requires t c κs = let d = c.before in ask-zero (omega (arith, d.if1.true)) d.before.before.before.requires.1.1
+leaves-requires t c κs = let d = c.before in ask_zero (omega (arith, d.if1.true)) d.before.before.before.requires.1.1
 
 leaves-length : (t : ℕ) → under-lts.Need-same-length (D t) (Under-at t) under.Post
 leaves-length t c = c.before.before.leaves.ensures.long
 
 leaves-returns : (t : ℕ) → under-lts.Need-returns (D t) (Under-at t) under.Post
-leaves-returns t c = let l = c.before.before in level-zero (omega (arith, l.before.before.if1.true)) l.leaves.ensures
+leaves-returns t c = let l = c.before.before in level_zero (omega (arith, l.before.before.if1.true)) l.leaves.ensures
 
 sub-below : (t : ℕ) → under-lts.Need-overflow-sub-below (D t) (Under-at t) under.Post
 sub-below t c = omega (arith, c.before.before.before.before.requires.1.0)
@@ -112,7 +112,7 @@ end-requires : (t : ℕ) → lts.Need-end-requires (B t) (At t) below.Post invar
 end-requires t c κs = search rules
 
 loop-holds : (t : ℕ) → lts.Need-loop-init (B t) (At t) below.Post invariant-loop decreases-loop
-loop-holds t c = let s = c.before.before.before.before in level-start _ _ _ _ _ _ _ _ s.ranges.m.fits
+loop-holds t c = let s = c.before.before.before.before in level_start _ _ _ _ _ _ _ _ s.ranges.m.fits
 
 -- ---- in the loop
 
@@ -132,7 +132,7 @@ low t c = lowest c.before.loop.left c.before.loop.invariant.few (omega (arith, c
 
 -- the layer lies inside the store as it is now
 part_in : (t : ℕ) (c : lts.In-loop (B t) (At t) below.Post invariant-loop decreases-loop) → c.before.before.end.result ≤ length c.before.loop.store
-part_in t c = let h = c.before in part-inside (ask t c) h.loop.invariant h.before.before.start.ensures h.before.end.ensures
+part_in t c = let h = c.before in part_inside (ask t c) h.loop.invariant h.before.before.start.ensures h.before.end.ensures
 
 part-in-other : (t : ℕ) (c : lts.In-loop (B t) (At t) below.Post invariant-loop decreases-loop)
     → c.before.before.end.result ≤ length c.before.before.before.before.before.before.args.other.now
@@ -150,10 +150,10 @@ cast_t : (t : ℕ) → lts.Need-overflow-cast-t (B t) (At t) below.Post invarian
 cast_t t c = record { fits = omega (arith, trailing_le 64 c.before.loop.left) }
 
 mul-c : (t : ℕ) → lts.Need-overflow-mul-c (B t) (At t) below.Post invariant-loop decreases-loop
-mul-c t c = omega (arith, small-ask (ask t c))
+mul-c t c = omega (arith, small_ask (ask t c))
 
 add-c : (t : ℕ) → lts.Need-overflow-add-c (B t) (At t) below.Post invariant-loop decreases-loop
-add-c t c = omega (arith, small-ask (ask t c), (low t c).inside)
+add-c t c = omega (arith, small_ask (ask t c), (low t c).inside)
 
 mul-get : (t : ℕ) → lts.Need-overflow-mul-get (B t) (At t) below.Post invariant-loop decreases-loop
 mul-get t c = omega (arith, ordered-here t c, near-here t c)
@@ -191,7 +191,7 @@ under-requires t c κs =
     let h = i.before in
     let s = h.before.before.before.before.before in (
       omega (arith, s.requires.0),
-      (above t i, ask-child (ask t i) h.loop.invariant (λ e. omega (arith, above t i)) (low t i).inside refl),
+      (above t i, ask_child (ask t i) h.loop.invariant (λ e. omega (arith, above t i)) (low t i).inside refl),
     )
 
 mul-put : (t : ℕ) → lts.Need-overflow-mul-put (B t) (At t) below.Post invariant-loop decreases-loop
@@ -218,7 +218,7 @@ drop-lowest-requires t c κs = search rules
 loop-less : (t : ℕ) → lts.Need-loop-smaller (B t) (At t) below.Post invariant-loop decreases-loop
 loop-less t c =
     let i = c.before.before.before.before.before.before.before.before.before.before.before.before.before.before.before in
-    less-left (low t i).inside (low t i).on (taken-off i.before.loop.invariant.few (low t i).inside (low t i).on c.drop-lowest.ensures)
+    less-left (low t i).inside (low t i).on (taken_off i.before.loop.invariant.few (low t i).inside (low t i).on c.drop-lowest.ensures)
 
 loop-again : (t : ℕ) → lts.Need-loop-preserved (B t) (At t) below.Post invariant-loop decreases-loop
 loop-again t c =
@@ -230,15 +230,15 @@ loop-again t c =
     let i = x.before.before.before in
     let h = i.before in
     let e = h.before in
-    level-turn (ask t i) h.loop.invariant e.before.start.ensures e.end.ensures (λ z. omega (arith, above t i)) (low t i).inside (low t i).on refl
+    level_turn (ask t i) h.loop.invariant e.before.start.ensures e.end.ensures (λ z. omega (arith, above t i)) (low t i).inside (low t i).on refl
     x.get.ensures v.moving.ensures r.under.ensures p.put.ensures w.with-bit.ensures
-    (taken-off h.loop.invariant.few (low t i).inside (low t i).on c.drop-lowest.ensures)
+    (taken_off h.loop.invariant.few (low t i).inside (low t i).on c.drop-lowest.ensures)
 
 same_length : (t : ℕ) → lts.Need-same-length (B t) (At t) below.Post invariant-loop decreases-loop
 same_length t c = c.before.loop.invariant.long
 
 returns : (t : ℕ) → lts.Need-returns (B t) (At t) below.Post invariant-loop decreases-loop
-returns t c = level-end c.loop-test.false c.before.loop.invariant
+returns t c = level_end c.loop-test.false c.before.loop.invariant
 
 pub +below-under-spec : {M : Type 1} → statement M
 +below-under-spec =

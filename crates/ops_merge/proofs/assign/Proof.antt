@@ -2,9 +2,9 @@
 use native.Mathlib.Omega.{arith}
 use borrow.Author.Rules.{rules}
 use Rattle.store.specs.Layout.{StoreOf}
-use Rattle.store.proofs.Ends.{some-store, no_store}
-use Rattle.store.proofs.TopLayer.{top-low}
-use Rattle.ops_merge.proofs.Answers.{first-refused, second-refused, caps-refused, ask-top, merge-done}
+use Rattle.store.proofs.Ends.{some_store, no_store}
+use Rattle.store.proofs.TopLayer.{top_low}
+use Rattle.ops_merge.proofs.Answers.{first_refused, second_refused, caps_refused, ask_top, merge_done}
 use Rattle.ops_merge.proofs.assign.Statement.{statement}
 use Rattle.ops_merge.proofs.assign.Tie as tie
 
@@ -18,7 +18,7 @@ returns : tie.Need-returns
 returns c =
     let y = c.before in
     let a = y.before.before.before.before.args in
-    first-refused a.store.now a.other.now (no_store a.store.now y.capacity.ensures c.if1.true)
+    first_refused a.store.now a.other.now (no_store a.store.now y.capacity.ensures c.if1.true)
 
 capacity-requires-2 : tie.Need-capacity-requires-2
 capacity-requires-2 c κs = search rules
@@ -28,16 +28,16 @@ same-length-2 c = search rules
 
 -- past its test each slice is a store
 first : (c : tie.Else1) → StoreOf c.before.capacity.result c.before.before.before.before.before.args.store.now
-first c = some-store c.before.before.before.before.before.args.store.now c.before.capacity.ensures c.if1.false
+first c = some_store c.before.before.before.before.before.args.store.now c.before.capacity.ensures c.if1.false
 
 second : (c : tie.Else2) → StoreOf c.before.capacity2.result c.before.before.before.before.before.before.before.args.other.now
-second c = some-store c.before.before.before.before.before.before.before.args.other.now c.before.capacity2.ensures c.if2.false
+second c = some_store c.before.before.before.before.before.before.before.args.other.now c.before.capacity2.ensures c.if2.false
 
 returns-2 : tie.Need-returns-2
 returns-2 c =
     let y = c.before in
     let a = y.before.before.before.before.before.before.args in
-    second-refused a.store.now a.other.now (first y.before) (no_store a.other.now y.capacity2.ensures c.if2.true)
+    second_refused a.store.now a.other.now (first y.before) (no_store a.other.now y.capacity2.ensures c.if2.true)
 
 same-length-3 : tie.Need-same-length-3
 same-length-3 c = search rules
@@ -46,7 +46,7 @@ returns-3 : tie.Need-returns-3
 returns-3 c =
     let e = c.before in
     let a = e.before.before.before.before.before.before.before.args in
-    caps-refused a.store.now a.other.now (first e.before.before) (second e) c.if3.true
+    caps_refused a.store.now a.other.now (first e.before.before) (second e) c.if3.true
 
 top-requires : tie.Need-top-requires
 top-requires c κs = search rules
@@ -55,7 +55,7 @@ below-requires : tie.Need-below-requires
 below-requires c κs =
     let n = c.before.before in
     let f = n.before.before.before in
-    (omega (arith, c.top.ensures, top-low f.before.capacity.result), ask-top (first f) (second n.before) n.if3.false c.top.ensures)
+    (omega (arith, c.top.ensures, top_low f.before.capacity.result), ask_top (first f) (second n.before) n.if3.false c.top.ensures)
 
 same-length-4 : tie.Need-same-length-4
 same-length-4 c = c.before.before.below.ensures.long
@@ -66,7 +66,7 @@ returns-4 c =
     let n = b.before.before.before in
     let e = n.before in
     let k = e.before.before.before.before.before in
-    merge-done {op = k.before.before.args.op} (first e.before.before) (second e) n.if3.false b.before.top.ensures
+    merge_done {op = k.before.before.args.op} (first e.before.before) (second e) n.if3.false b.before.top.ensures
     (λ x. (k.before.slice-known.given x).fits) (λ x. (k.shared-slice-known.given x).fits) (λ x. (c.slice-known2.given x).fits) b.below.ensures
 
 pub assign-spec : {M : Type 1} → statement M

@@ -6,9 +6,9 @@ use native.Mathlib.Omega.{arith}
 use borrow.Author.Rules.{rules}
 use borrow.Rule.Slice.PartMut.{mid_of}
 use lib.ListN.{length}
-use Rattle.ops_group.specs.Group.{mergeNamed, markNamed}
-use Rattle.ops_merge.proofs.Leaf.{level-leaves, level-short}
-use Rattle.ops_merge.proofs.Steps.{small-ask, start-near, spot-here, both_long}
+use Rattle.ops_group.specs.Group.{merge_named, mark_named}
+use Rattle.ops_merge.proofs.Leaf.{level_leaves, level_short}
+use Rattle.ops_merge.proofs.Steps.{small_ask, start_near, spot_here, both_long}
 use Rattle.ops_merge.proofs.leaves.Statement.{statement}
 use Rattle.ops_merge.proofs.leaves.Tie as tie
 
@@ -16,13 +16,13 @@ start-requires : tie.Need-start-requires
 start-requires c κs = search rules
 
 mul-a : tie.Need-overflow-mul-a
-mul-a c = omega (arith, small-ask c.before.before.before.requires)
+mul-a c = omega (arith, small_ask c.before.before.before.requires)
 
 add_a : tie.Need-overflow-add-a
-add_a c = let s = c.before.before.before in omega (arith, small-ask s.requires, start-near s.requires c.start.ensures)
+add_a c = let s = c.before.before.before in omega (arith, small_ask s.requires, start_near s.requires c.start.ensures)
 
 add-e : tie.Need-overflow-add-e
-add-e c = let s = c.before.before.before in omega (arith, small-ask s.requires, start-near s.requires c.start.ensures)
+add-e c = let s = c.before.before.before in omega (arith, small_ask s.requires, start_near s.requires c.start.ensures)
 
 mul-group : tie.Need-overflow-mul-group
 mul-group c = omega arith
@@ -61,7 +61,7 @@ returns c =
     let d = f.before in
     let s = d.before.before.before in
     let a : ℕ = d.start.result + s.args.j * 64 in
-    level-leaves {a = a} {e = a + 64} s.requires.first (spot-here s.requires d.start.ensures (omega (arith, f.if1.true)) (omega (arith, f.if1.true))) s.args.op s.args.other.now s.args.w
+    level_leaves {a = a} {e = a + 64} s.requires.first (spot_here s.requires d.start.ensures (omega (arith, f.if1.true)) (omega (arith, f.if1.true))) s.args.op s.args.other.now s.args.w
     s.args.m s.ranges.m.fits (both_long s.requires) g.group.ensures.0 g.group.ensures.1
 
 least-requires : tie.Need-least-requires
@@ -107,10 +107,10 @@ returns-2 c =
     let a = s.args in
     let b : ℕ = l.least.result in
     let q = both_long s.requires in
-    let after : ℕ → List ℕ = λ k. mergeNamed a.op a.m 0 (mid_of b (length a.store.now - b) a.store.now) (mid_of b (k - b) a.other.now) in
-    level-short s.requires.first (spot-here s.requires d.start.ensures l.least.ensures (omega (arith, f.if1.false, l.least.ensures))) a.op a.other.now a.w
+    let after : ℕ → List ℕ = λ k. merge_named a.op a.m 0 (mid_of b (length a.store.now - b) a.store.now) (mid_of b (k - b) a.other.now) in
+    level_short s.requires.first (spot_here s.requires d.start.ensures l.least.ensures (omega (arith, f.if1.false, l.least.ensures))) a.op a.other.now a.w
     a.m s.ranges.m.fits q (omega (arith, f.if1.false, l.least.ensures)) (subst (λ (k : ℕ). g.one_by_one.new.0 ≡ after k) q g.one_by_one.ensures.0)
-    (subst (λ (k : ℕ). g.one_by_one.result ≡ markNamed a.m (after k) a.w) q g.one_by_one.ensures.1)
+    (subst (λ (k : ℕ). g.one_by_one.result ≡ mark_named a.m (after k) a.w) q g.one_by_one.ensures.1)
 
 pub leaves-spec : {M : Type 1} → statement M
 leaves-spec =

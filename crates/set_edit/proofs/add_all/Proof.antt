@@ -10,21 +10,21 @@ use borrow.Author.Tests.{ltb-true}
 use lib.Dec.{ltb}
 use lib.ListN.{length, get_or, drop}
 use Rattle.util.proofs.Same.{both}
-use Rattle.store.specs.Layout.{layerStart, cap, StoreOf, idWordOf}
-use Rattle.store.proofs.Ends.{IdWord, id-word, start_is, store-small}
+use Rattle.store.specs.Layout.{layer_start, cap, StoreOf, id_word_of}
+use Rattle.store.proofs.Ends.{IdWord, id-word, start_is, store_small}
 use Rattle.store.proofs.Geometry.{store_kept}
 use Rattle.set_member.specs.Place.{Placed}
-use Rattle.set_edit.specs.Calls.{all_below, addAll}
-use Rattle.set_edit.specs.Edit.{movedBy}
-use Rattle.set_edit.proofs.Answers.{below-turn, add_turn, add-end}
-use Rattle.set_edit.proofs.Edits.{length_moved, cap-moved}
+use Rattle.set_edit.specs.Calls.{all_below, add_all}
+use Rattle.set_edit.specs.Edit.{moved_by}
+use Rattle.set_edit.proofs.Answers.{below_turn, add_turn, add_end}
+use Rattle.set_edit.proofs.Edits.{length_moved, cap_moved}
 use Rattle.set_edit.proofs.add_all.Statement.{statement}
 use Rattle.set_edit.proofs.add_all.Tie as tie
 
 abbrev invariant-loop : tie.invariant-loop
 invariant-loop store₀ n ids a i₀ store i =
     (i ≤ length ids) × StoreOf n store × (all_below n (drop i ids) ≡ true)
-    × (addAll n store (drop i ids) ≡ addAll n store₀ ids) × (length store ≡ length store₀) × (a ≡ layerStart n 0)
+    × (add_all n store (drop i ids) ≡ add_all n store₀ ids) × (length store ≡ length store₀) × (a ≡ layer_start n 0)
 
 abbrev decreases-loop : tie.decreases-loop
 decreases-loop store₀ n ids a i₀ store i = length ids - i
@@ -51,7 +51,7 @@ rest : (c : tie.In-loop invariant-loop decreases-loop) →
 rest c =
     let l = c.before in
     let a = l.before.before.before.before.args in
-    both _ _ (sym (below-turn a.n a.ids.now l.loop.i (omega arith)) ∙ l.loop.invariant.2)
+    both _ _ (sym (below_turn a.n a.ids.now l.loop.i (omega arith)) ∙ l.loop.invariant.2)
 
 here : (c : tie.In-loop invariant-loop decreases-loop) →
     let l = c.before in
@@ -64,14 +64,14 @@ there : (c : tie.In-loop invariant-loop decreases-loop) →
     let l = c.before in
     let a = l.before.before.before.before.args in
     let i = get_or a.ids.now l.loop.i 0 in
-    IdWord a.n l.loop.store i (idWordOf l.before.start.result i)
+    IdWord a.n l.loop.store i (id_word_of l.before.start.result i)
 there c = let z = here c in id-word z.store z.below c.before.loop.invariant.5
 
 id-word-requires : tie.Need-id-word-requires invariant-loop decreases-loop
 id-word-requires c κs = search rules
 
 mul-old : tie.Need-overflow-mul-old invariant-loop decreases-loop
-mul-old c = omega (arith, c.id-word.ensures, (there c.before.before).inside, store-small (here c.before.before).store)
+mul-old c = omega (arith, c.id-word.ensures, (there c.before.before).inside, store_small (here c.before.before).store)
 
 slice-read-old : tie.Need-slice-read-old invariant-loop decreases-loop
 slice-read-old c = omega (arith, c.before.id-word.ensures, (there c.before.before.before).inside)
@@ -80,7 +80,7 @@ add-in-requires : tie.Need-add-in-requires invariant-loop decreases-loop
 add-in-requires c κs =
     let w = c.before.before in
     let t = w.before.before in
-    record { placed = here t; start_is = t.before.loop.invariant.5; word-is = ap (λ (x : ℕ). get_or t.before.loop.store x 0) w.id-word.ensures ∙ (there t).word-is }
+    record { placed = here t; start_is = t.before.loop.invariant.5; word_is = ap (λ (x : ℕ). get_or t.before.loop.store x 0) w.id-word.ensures ∙ (there t).word-is }
 
 add-i : tie.Need-overflow-add-i invariant-loop decreases-loop
 add-i c = search rules
@@ -96,12 +96,12 @@ loop-again c =
     let a = l.before.before.before.before.args in
     let n = a.n in
     let x = get_or a.ids.now l.loop.i 0 in
-    let m : e.add-in.new.0 ≡ movedBy true n l.loop.store x = e.add-in.ensures.memory in
+    let m : e.add-in.new.0 ≡ moved_by true n l.loop.store x = e.add-in.ensures.memory in
     let long = ap length m ∙ length_moved true n l.loop.store x in (
       omega arith,
-      store_kept l.loop.invariant.1 long (ap cap m ∙ cap-moved true n l.loop.store x),
+      store_kept l.loop.invariant.1 long (ap cap m ∙ cap_moved true n l.loop.store x),
       ap (λ (k : ℕ). all_below n (drop k a.ids.now)) (add-one l.loop.i) ∙ (rest t).1,
-      ap₂ (λ (s : List ℕ) (k : ℕ). addAll n s (drop k a.ids.now)) m (add-one l.loop.i)
+      ap₂ (λ (s : List ℕ) (k : ℕ). add_all n s (drop k a.ids.now)) m (add-one l.loop.i)
           ∙ sym (add_turn n l.loop.store a.ids.now l.loop.i (omega arith)) ∙ l.loop.invariant.3,
       long ∙ l.loop.invariant.4,
       l.loop.invariant.5,
@@ -114,7 +114,7 @@ returns : tie.Need-returns invariant-loop decreases-loop
 returns c =
     let l = c.before in
     let a = l.before.before.before.before.args in
-    sym (add-end a.n l.loop.store a.ids.now l.loop.i (omega arith)) ∙ l.loop.invariant.3
+    sym (add_end a.n l.loop.store a.ids.now l.loop.i (omega arith)) ∙ l.loop.invariant.3
 
 pub add-all-spec : {M : Type 1} → statement M
 add-all-spec =

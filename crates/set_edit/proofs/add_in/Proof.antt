@@ -3,7 +3,7 @@ use mathlib.Core.Bool.{true}
 use mathlib.Core.Path.{sym, ◌∙◌}
 use native.Mathlib.Omega.{arith}
 use borrow.Author.Rules.{rules}
-use Rattle.set_edit.proofs.Answers.{none-added, one-added, all-added, bit-so, bit-not-so, id-begun, id-inside}
+use Rattle.set_edit.proofs.Answers.{none_added, one-added, all-added, bit_so, bit_not_so, id-begun, id_inside}
 use Rattle.set_edit.proofs.add_in.Statement.{statement}
 use Rattle.set_edit.proofs.add_in.Tie as tie
 
@@ -13,10 +13,10 @@ with-bit-requires c κs = search rules
 returns : tie.Need-returns
 returns c =
     let s = c.before.before.before in
-    none-added _ _ _ (bit-so s.requires true c.before.with-bit.ensures c.if1.true)
+    none_added _ _ _ (bit_so s.requires true c.before.with-bit.ensures c.if1.true)
 
 set-id-word-requires : tie.Need-set-id-word-requires
-set-id-word-requires c κs = id-inside c.before.before.before.before.requires
+set-id-word-requires c κs = id_inside c.before.before.before.before.requires
 
 same_length : tie.Need-same-length
 same_length c = search rules
@@ -27,7 +27,7 @@ returns-2 c =
     let n = m.before.before in
     let w = n.before in
     let s = w.before.before in
-    one-added _ _ _ (bit-not-so s.requires true w.with-bit.ensures (omega arith) n.if1.false) (λ e. c.if2.true (s.requires.word-is ∙ e))
+    one-added _ _ _ (bit_not_so s.requires true w.with-bit.ensures (omega arith) n.if1.false) (λ e. c.if2.true (s.requires.word-is ∙ e))
     (id-begun s.requires true w.with-bit.ensures m.set-id-word.ensures)
 
 mark-requires : tie.Need-mark-requires
@@ -48,7 +48,7 @@ returns-3 c =
     let n = m.before.before in
     let w = n.before in
     let s = w.before.before in
-    all-added _ _ _ (bit-not-so s.requires true w.with-bit.ensures (omega arith) n.if1.false) (sym s.requires.word-is ∙ t.if2.false)
+    all-added _ _ _ (bit_not_so s.requires true w.with-bit.ensures (omega arith) n.if1.false) (sym s.requires.word-is ∙ t.if2.false)
     (k.mark.ensures _ (id-begun s.requires true w.with-bit.ensures m.set-id-word.ensures))
 
 pub add_in_spec : {M : Type 1} → statement M

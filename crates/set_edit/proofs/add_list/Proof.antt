@@ -3,8 +3,8 @@ use mathlib.Core.Path.{sym, ◌∙◌}
 use borrow.Author.Rules.{rules}
 use borrow.Author.Tests.{not-true, not-false}
 use Rattle.store.specs.Layout.{StoreOf}
-use Rattle.store.proofs.Ends.{some-store, no_store}
-use Rattle.set_edit.proofs.Answers.{list-2, list-3, list_done}
+use Rattle.store.proofs.Ends.{some_store, no_store}
+use Rattle.set_edit.proofs.Answers.{list_2, list_3, list_done}
 use Rattle.set_edit.proofs.add_list.Statement.{statement}
 use Rattle.set_edit.proofs.add_list.Tie as tie
 
@@ -18,16 +18,16 @@ returns : tie.Need-returns
 returns c =
     let y = c.before in
     let a = y.before.before.before.before.args in
-    list-2 a.store.now a.ids.now (no_store a.store.now y.capacity.ensures c.if1.true)
+    list_2 a.store.now a.ids.now (no_store a.store.now y.capacity.ensures c.if1.true)
 
 -- past the first test the slice is a store
-store-here : (c : tie.Else1) → StoreOf c.before.capacity.result c.before.before.before.before.before.args.store.now
-store-here c =
+store_here : (c : tie.Else1) → StoreOf c.before.capacity.result c.before.before.before.before.before.args.store.now
+store_here c =
     let y = c.before in
-    some-store y.before.before.before.before.args.store.now y.capacity.ensures c.if1.false
+    some_store y.before.before.before.before.args.store.now y.capacity.ensures c.if1.false
 
 all-below-requires : tie.Need-all-below-requires
-all-below-requires c κs = (store-here c).most
+all-below-requires c κs = (store_here c).most
 
 same-length-2 : tie.Need-same-length-2
 same-length-2 c = search rules
@@ -36,12 +36,12 @@ returns-2 : tie.Need-returns-2
 returns-2 c =
     let b = c.before in
     let a = b.before.before.before.before.before.before.args in
-    list-3 a.store.now a.ids.now _ (store-here b.before) (sym b.all-below.ensures ∙ not-true _ c.if2.true)
+    list_3 a.store.now a.ids.now _ (store_here b.before) (sym b.all-below.ensures ∙ not-true _ c.if2.true)
 
 add-all-requires : tie.Need-add-all-requires
 add-all-requires c κs =
     let e = c.before in
-    (store-here e.before.before, sym e.before.all-below.ensures ∙ not-false _ e.if2.false)
+    (store_here e.before.before, sym e.before.all-below.ensures ∙ not-false _ e.if2.false)
 
 same-length-3 : tie.Need-same-length-3
 same-length-3 c = search rules
@@ -52,7 +52,7 @@ returns-3 c =
     let e = m.before.before in
     let b = e.before in
     let a = b.before.before.before.before.before.before.args in
-    list_done a.store.now a.ids.now _ (store-here b.before) _ (sym b.all-below.ensures ∙ not-false _ e.if2.false) m.add-all.ensures
+    list_done a.store.now a.ids.now _ (store_here b.before) _ (sym b.all-below.ensures ∙ not-false _ e.if2.false) m.add-all.ensures
 
 pub add-list-spec : {M : Type 1} → statement M
 add-list-spec =

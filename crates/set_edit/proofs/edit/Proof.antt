@@ -4,10 +4,10 @@ use Prim.Native.Nat.{ℕ, ◌%◌}
 use native.Mathlib.Omega.{arith}
 use borrow.Author.Rules.{rules}
 use Rattle.util.specs.Word.{change}
-use Rattle.store.proofs.Parts.{part-set, part_in}
-use Rattle.store.proofs.Words.{anc-shift}
-use Rattle.set_member.proofs.Spots.{Ranged, ranged, word-there}
-use Rattle.set_edit.proofs.Steps.{layer-lt, edited}
+use Rattle.store.proofs.Parts.{part_set, part_in}
+use Rattle.store.proofs.Words.{anc_shift}
+use Rattle.set_member.proofs.Spots.{Ranged, ranged, word_there}
+use Rattle.set_edit.proofs.Steps.{layer_lt, edited}
 use Rattle.set_edit.proofs.edit.Statement.{statement}
 use Rattle.set_edit.proofs.edit.Tie as tie
 
@@ -15,16 +15,16 @@ start-requires : tie.Need-start-requires
 start-requires c κs = search rules
 
 add-offset : tie.Need-overflow-add-offset
-add-offset c = omega (arith, layer-lt c.before.before.requires)
+add-offset c = omega (arith, layer_lt c.before.before.requires)
 
 mul-offset : tie.Need-overflow-mul-offset
-mul-offset c = omega (arith, layer-lt c.before.before.requires)
+mul-offset c = omega (arith, layer_lt c.before.before.requires)
 
 offset-requires : tie.Need-offset-requires
 offset-requires c κs = search rules
 
 mul-offset-2 : tie.Need-overflow-mul-offset-2
-mul-offset-2 c = omega (arith, layer-lt c.before.before.before.requires)
+mul-offset-2 c = omega (arith, layer_lt c.before.before.before.requires)
 
 offset-requires-2 : tie.Need-offset-requires-2
 offset-requires-2 c κs = search rules
@@ -82,8 +82,8 @@ returns c =
     let r = there b in
     edited s.requires r.start r.index s.args.on
     (w.with-bit.ensures
-    ∙ ap₂ (λ (x y : ℕ). change s.args.on x (y % 64)) (word-there s.requires _ _ a.start.ensures q.offset.ensures) (b.offset2.ensures ∙ sym (anc-shift s.args.id s.args.k)))
-    (part-set _ _ _ _ _ _ r.inside (omega arith) m.set_word.ensures)
+    ∙ ap₂ (λ (x y : ℕ). change s.args.on x (y % 64)) (word_there s.requires _ _ a.start.ensures q.offset.ensures) (b.offset2.ensures ∙ sym (anc_shift s.args.id s.args.k)))
+    (part_set _ _ _ _ _ _ r.inside (omega arith) m.set_word.ensures)
 
 pub edit-spec : {M : Type 1} → statement M
 edit-spec =

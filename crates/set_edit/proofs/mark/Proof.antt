@@ -8,9 +8,9 @@ use native.Mathlib.Omega.{arith}
 use borrow.Author.Rules.{rules}
 use lib.ListN.{length}
 use Rattle.store.specs.Layout.{top}
-use Rattle.store.proofs.TopLayer.{top-high}
+use Rattle.store.proofs.TopLayer.{top_high}
 use Rattle.set_edit.specs.Steps.{Begun}
-use Rattle.set_edit.proofs.Steps.{placed, one_more, marked}
+use Rattle.set_edit.proofs.Steps.{placed, one_more_lem, marked}
 use Rattle.set_edit.proofs.mark.Statement.{statement}
 use Rattle.set_edit.proofs.mark.Tie as tie
 
@@ -34,7 +34,7 @@ edit-requires c κs =
     placed true (l.loop.invariant.3 p.0 p.1) (omega (arith, l.loop.invariant.1))
 
 add-k : tie.Need-overflow-add-k invariant-loop decreases-loop
-add-k c = let l = c.before.before.before.before.before in omega (arith, l.loop.invariant.1, top-high l.before.before.before.args.n)
+add-k c = let l = c.before.before.before.before.before in omega (arith, l.loop.invariant.1, top_high l.before.before.before.args.n)
 
 loop-less : tie.Need-loop-smaller invariant-loop decreases-loop
 loop-less c = omega arith
@@ -46,7 +46,7 @@ loop-again c =
       omega arith,
       l.loop.invariant.1,
       search rules,
-      λ s g. rw (add-one l.loop.k) (one_more true (l.loop.invariant.3 s g) (omega (arith, l.loop.invariant.1)) e.edit.ensures),
+      λ s g. rw (add-one l.loop.k) (one_more_lem true (l.loop.invariant.3 s g) (omega (arith, l.loop.invariant.1)) e.edit.ensures),
     )
 
 same_length : tie.Need-same-length invariant-loop decreases-loop

@@ -4,7 +4,7 @@ use borrow.Author.Rules.{rules}
 use Rattle.store.specs.declared.Asked.TheVariants.{Is}
 use Rattle.set_member.specs.Place.{Inside}
 use Rattle.set_member.proofs.Places.{inside, outside, nowhere}
-use Rattle.set_edit.proofs.Answers.{change-2, change-past, change-is}
+use Rattle.set_edit.proofs.Answers.{change_2, change_past, change_is}
 use Rattle.set_edit.proofs.remove.Statement.{statement}
 use Rattle.set_edit.proofs.remove.Tie as tie
 
@@ -38,7 +38,7 @@ returns c =
     let m = c.before.before in
     let n = m.before.before.before in
     let a = n.before.before.before.before.before.args in
-    change-is a.store.now a.id false (Is false) _ (inside-here n).placed m.remove-in.result m.remove-in.new.0 m.remove-in.ensures
+    change_is a.store.now a.id false (Is false) _ (inside-here n).placed m.remove-in.result m.remove-in.new.0 m.remove-in.ensures
 
 same-length-2 : tie.Need-same-length-2
 same-length-2 c = search rules
@@ -47,7 +47,7 @@ returns-2 : tie.Need-returns-2
 returns-2 c =
     let l = c.before.before in
     let a = l.before.before.before.args in
-    change-past a.store.now a.id false (Is false) (outside _ _ l.locate.ensures c.enum_told.given.1)
+    change_past a.store.now a.id false (Is false) (outside _ _ l.locate.ensures c.enum_told.given.1)
 
 same-length-3 : tie.Need-same-length-3
 same-length-3 c = search rules
@@ -56,7 +56,7 @@ returns-3 : tie.Need-returns-3
 returns-3 c =
     let l = c.before.before in
     let a = l.before.before.before.args in
-    change-2 a.store.now a.id false (Is false) (nowhere _ _ l.locate.ensures c.enum-told2.given.1)
+    change_2 a.store.now a.id false (Is false) (nowhere _ _ l.locate.ensures c.enum-told2.given.1)
 
 pub remove-spec : {M : Type 1} → statement M
 remove-spec =

@@ -3,8 +3,8 @@ use mathlib.Core.Bool.{false}
 use native.Mathlib.Omega.{arith}
 use borrow.Author.Rules.{rules}
 use Rattle.set_edit.specs.Steps.{Climbing}
-use Rattle.set_edit.proofs.Answers.{none-removed, some-removed, bit-so, bit-not-so, id-edited, id-inside}
-use Rattle.set_edit.proofs.Steps.{climb-none, climb-more, climb-ends}
+use Rattle.set_edit.proofs.Answers.{none_removed, some_removed, bit_so, bit_not_so, id_edited, id_inside}
+use Rattle.set_edit.proofs.Steps.{climb_none, climb-more, climb_ends}
 use Rattle.set_edit.proofs.remove_in.Statement.{statement}
 use Rattle.set_edit.proofs.remove_in.Tie as tie
 
@@ -14,10 +14,10 @@ with-bit-requires c κs = search rules
 returns : tie.Need-returns
 returns c =
     let s = c.before.before.before in
-    none-removed _ _ _ (bit-so s.requires false c.before.with-bit.ensures c.if1.true)
+    none_removed _ _ _ (bit_so s.requires false c.before.with-bit.ensures c.if1.true)
 
 set-id-word-requires : tie.Need-set-id-word-requires
-set-id-word-requires c κs = id-inside c.before.before.before.before.requires
+set-id-word-requires c κs = id_inside c.before.before.before.before.requires
 
 same_length : tie.Need-same-length
 same_length c = search rules
@@ -28,8 +28,8 @@ returns-2 c =
     let n = m.before.before in
     let w = n.before in
     let s = w.before.before in
-    some-removed _ _ _ (bit-not-so s.requires false w.with-bit.ensures (omega arith) n.if1.false)
-    (climb-ends (climb-none s.requires.placed) (omega arith) (id-edited s.requires false w.with-bit.ensures m.set-id-word.ensures) c.if2.true)
+    some_removed _ _ _ (bit_not_so s.requires false w.with-bit.ensures (omega arith) n.if1.false)
+    (climb_ends (climb_none s.requires.placed) (omega arith) (id_edited s.requires false w.with-bit.ensures m.set-id-word.ensures) c.if2.true)
 
 -- layer 0 keeps no bit of its word
 climbing : (c : tie.Else2) →
@@ -41,7 +41,7 @@ climbing c =
     let n = m.before.before in
     let w = n.before in
     let s = w.before.before in
-    climb-more (climb-none s.requires.placed) (omega arith) (id-edited s.requires false w.with-bit.ensures m.set-id-word.ensures) c.if2.false
+    climb-more (climb_none s.requires.placed) (omega arith) (id_edited s.requires false w.with-bit.ensures m.set-id-word.ensures) c.if2.false
 
 unmark-requires : tie.Need-unmark-requires
 unmark-requires c κs = (_, climbing c.before)
@@ -56,7 +56,7 @@ returns-3 c =
     let n = t.before.before.before.before.before in
     let w = n.before in
     let s = w.before.before in
-    some-removed _ _ _ (bit-not-so s.requires false w.with-bit.ensures (omega arith) n.if1.false) (k.unmark.ensures _ (climbing t))
+    some_removed _ _ _ (bit_not_so s.requires false w.with-bit.ensures (omega arith) n.if1.false) (k.unmark.ensures _ (climbing t))
 
 pub remove-in-spec : {M : Type 1} → statement M
 remove-in-spec =

@@ -4,7 +4,7 @@ use Prim.Native.Nat.{ℕ, ◌+◌}
 use native.Mathlib.Omega.{arith}
 use borrow.Author.Rules.{rules}
 use lib.ListN.{length, set}
-use Rattle.store.proofs.Parts.{part-set}
+use Rattle.store.proofs.Parts.{part_set}
 use Rattle.set_edit.proofs.set_id_word.Statement.{statement}
 use Rattle.set_edit.proofs.set_id_word.Tie as tie
 
@@ -34,7 +34,7 @@ returns c =
     let m = c.before.before in
     let o = m.before in
     let s = o.before.before.before in
-    part-set s.args.a (length s.args.store.now) o.offset.result s.args.w s.args.store.now _ (omega (arith, o.offset.ensures)) (omega arith) m.set_word.ensures
+    part_set s.args.a (length s.args.store.now) o.offset.result s.args.w s.args.store.now _ (omega (arith, o.offset.ensures)) (omega arith) m.set_word.ensures
     ∙ ap (λ (x : ℕ). set s.args.store.now (s.args.a + x) s.args.w) o.offset.ensures
 
 pub set-id-word-spec : {M : Type 1} → statement M

@@ -8,9 +8,9 @@ use native.Mathlib.Omega.{arith}
 use borrow.Author.Rules.{rules}
 use lib.ListN.{length}
 use Rattle.store.specs.Layout.{top}
-use Rattle.store.proofs.TopLayer.{top-high}
+use Rattle.store.proofs.TopLayer.{top_high}
 use Rattle.set_edit.specs.Steps.{Climbing}
-use Rattle.set_edit.proofs.Steps.{placed, climb-top-end, climb-more, climb-ends}
+use Rattle.set_edit.proofs.Steps.{placed, climb-top_end, climb-more, climb_ends}
 use Rattle.set_edit.proofs.unmark.Statement.{statement}
 use Rattle.set_edit.proofs.unmark.Tie as tie
 
@@ -36,7 +36,7 @@ edit-requires c κs =
 add-result : tie.Need-overflow-add-result invariant-loop decreases-loop
 add-result c =
     let l = c.before.before.before.before.before.before in
-    omega (arith, l.loop.invariant.1, top-high l.before.before.before.args.n)
+    omega (arith, l.loop.invariant.1, top_high l.before.before.before.args.n)
 
 same_length : tie.Need-same-length invariant-loop decreases-loop
 same_length c = search rules
@@ -46,12 +46,12 @@ returns c =
     λ s g.
     (let e = c.before.before.before in
     let l = e.before.before.before in
-    rw (add-one l.loop.k) (climb-ends (l.loop.invariant.3 s g) (omega (arith, l.loop.invariant.1)) e.edit.ensures c.if1.true))
+    rw (add-one l.loop.k) (climb_ends (l.loop.invariant.3 s g) (omega (arith, l.loop.invariant.1)) e.edit.ensures c.if1.true))
 
 add-k : tie.Need-overflow-add-k invariant-loop decreases-loop
 add-k c =
     let l = c.before.before.before.before.before.before in
-    omega (arith, l.loop.invariant.1, top-high l.before.before.before.args.n)
+    omega (arith, l.loop.invariant.1, top_high l.before.before.before.args.n)
 
 loop-less : tie.Need-loop-smaller invariant-loop decreases-loop
 loop-less c = omega arith
@@ -70,7 +70,7 @@ same-length-2 : tie.Need-same-length-2 invariant-loop decreases-loop
 same-length-2 c = search rules
 
 returns-2 : tie.Need-returns-2 invariant-loop decreases-loop
-returns-2 c = λ s g. (let l = c.before in climb-top-end (l.loop.invariant.3 s g) (omega (arith, l.loop.invariant.1)))
+returns-2 c = λ s g. (let l = c.before in climb-top_end (l.loop.invariant.3 s g) (omega (arith, l.loop.invariant.1)))
 
 pub unmark-spec : {M : Type 1} → statement M
 unmark-spec =

@@ -4,7 +4,7 @@ use Prim.Native.Nat.{◌≤◌}
 use native.Mathlib.Omega.{arith}
 use borrow.Author.Rules.{rules}
 use lib.ListN.{length}
-use Rattle.set_free.proofs.Words.{skipped-on, opened-where}
+use Rattle.set_free.proofs.Words.{skipped_on, opened_where}
 use Rattle.set_free.proofs.open_word.Statement.{statement}
 use Rattle.set_free.proofs.open_word.Tie as tie
 
@@ -34,7 +34,7 @@ returns-2 : tie.Need-returns-2
 returns-2 c =
     let k = c.before in
     let p = k.before.before in
-    opened-where (skipped-on (skipped-on p.pass.ensures.skipped k.skip.ensures) c.pass2.ensures.skipped) c.pass2.ensures.some
+    opened_where (skipped_on (skipped_on p.pass.ensures.skipped k.skip.ensures) c.pass2.ensures.skipped) c.pass2.ensures.some
 
 pub open-word-spec : {M : Type 1} → statement M
 open-word-spec = tie.close (tie.spec add-if1 add-near pass-requires returns skip-requires pass-requires-2 returns-2)

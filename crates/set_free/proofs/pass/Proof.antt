@@ -3,7 +3,7 @@ use Prim.Native.Nat.{◌-◌}
 use native.Mathlib.Omega.{arith}
 use borrow.Author.Rules.{rules}
 use Rattle.set_free.specs.Steps.{Skipped}
-use Rattle.set_free.proofs.Words.{skipped-start, skipped-one}
+use Rattle.set_free.proofs.Words.{skipped_start, skipped_one}
 use Rattle.set_free.proofs.pass.Statement.{statement}
 use Rattle.set_free.proofs.pass.Tie as tie
 
@@ -14,7 +14,7 @@ abbrev decreases-loop : tie.decreases-loop
 decreases-loop layer q end i₀ i = end - i
 
 loop-holds : tie.Need-loop-init invariant-loop decreases-loop
-loop-holds c = skipped-start c.args.layer.now c.args.q
+loop-holds c = skipped_start c.args.layer.now c.args.q
 
 mul-if1 : tie.Need-overflow-mul-if1 invariant-loop decreases-loop
 mul-if1 c = search rules
@@ -34,7 +34,7 @@ loop-less c = omega (arith, c.before.before.loop-test.true)
 loop-again : tie.Need-loop-preserved invariant-loop decreases-loop
 loop-again c =
     let t = c.before.before in
-    skipped-one t.before.loop.invariant (omega (arith, t.loop-test.true, t.before.before.requires)) c.if1.false
+    skipped_one t.before.loop.invariant (omega (arith, t.loop-test.true, t.before.before.requires)) c.if1.false
 
 returns-2 : tie.Need-returns-2 invariant-loop decreases-loop
 returns-2 c = record { skipped = c.before.loop.invariant; some = λ l. absurd (omega (arith, c.loop-test.false)) }

@@ -6,7 +6,7 @@ use lib.Count.{trailing_le}
 use lib.Pow.{pow_pos}
 use Rattle.util.proofs.Bits.{shl_one}
 use Rattle.set_free.specs.Steps.{full}
-use Rattle.set_free.proofs.Words.{ownLeft, own-word, next_word}
+use Rattle.set_free.proofs.Words.{own_left, own_word, next_word}
 use Rattle.set_free.proofs.search.Statement.{statement}
 use Rattle.set_free.proofs.search.Tie as tie
 
@@ -24,12 +24,12 @@ mul-within c = omega (arith, c.before.before.before.requires.first-in)
 
 -- the lowest bit is no more than 64
 cast-within : tie.Need-overflow-cast-within
-cast-within c = omega (arith, trailing_le 64 (ownLeft c.before.before.before.args.first c.before.get.result))
+cast-within c = omega (arith, trailing_le 64 (own_left c.before.before.before.args.first c.before.get.result))
 
 add-within : tie.Need-overflow-add-within
 add-within c =
     let s = c.before.before.before in
-    omega (arith, trailing_le 64 (ownLeft s.args.first c.before.get.result), s.requires.first-in)
+    omega (arith, trailing_le 64 (own_left s.args.first c.before.get.result), s.requires.first-in)
 
 within-requires : tie.Need-within-requires
 within-requires c κs = c.before.before.before.requires.most
@@ -39,7 +39,7 @@ returns c =
     let g = c.before.before in
     let a = g.before.before.args in
     c.within.ensures
-    ∙ own-word a.layer.now a.n a.first g.get.result g.get.ensures (omega (arith, g.get.type-inv)) c.before.if1.true
+    ∙ own_word a.layer.now a.n a.first g.get.result g.get.ensures (omega (arith, g.get.type-inv)) c.before.if1.true
 
 add-open-word : tie.Need-overflow-add-open-word
 add-open-word c = omega arith

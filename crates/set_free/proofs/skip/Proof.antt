@@ -3,7 +3,7 @@ use Prim.Native.Nat.{◌-◌}
 use native.Mathlib.Omega.{arith}
 use lib.ListN.{length}
 use Rattle.set_free.specs.Steps.{Skipped}
-use Rattle.set_free.proofs.Words.{and-full, skipped-start, skipped-eight}
+use Rattle.set_free.proofs.Words.{and_full, skipped_start, skipped_eight}
 use Rattle.set_free.proofs.skip.Statement.{statement}
 use Rattle.set_free.proofs.skip.Tie as tie
 
@@ -14,7 +14,7 @@ abbrev decreases-loop : tie.decreases-loop
 decreases-loop layer q i₀ i = length layer - i
 
 loop-holds : tie.Need-loop-init invariant-loop decreases-loop
-loop-holds c = skipped-start c.before.args.layer.now c.before.args.q
+loop-holds c = skipped_start c.before.args.layer.now c.before.args.q
 
 add-loop : tie.Need-overflow-add-loop invariant-loop decreases-loop
 add-loop c = omega (arith, c.loop.invariant.upto, c.before.before.requires)
@@ -40,8 +40,8 @@ loop-less c = omega (arith, c.before.before.before.loop-test.true)
 loop-again : tie.Need-loop-preserved invariant-loop decreases-loop
 loop-again c =
     let f = c.before.before in
-    let e = and-full f.four.result c.before.four2.result (omega (arith, f.four.type-inv)) (omega (arith, c.before.four2.type-inv)) c.if1.false in
-    skipped-eight f.before.before.loop.invariant f.before.loop-test.true (f.four.ensures e.0) (c.before.four2.ensures e.1)
+    let e = and_full f.four.result c.before.four2.result (omega (arith, f.four.type-inv)) (omega (arith, c.before.four2.type-inv)) c.if1.false in
+    skipped_eight f.before.before.loop.invariant f.before.loop-test.true (f.four.ensures e.0) (c.before.four2.ensures e.1)
 
 returns-2 : tie.Need-returns-2 invariant-loop decreases-loop
 returns-2 c = c.before.loop.invariant

@@ -2,8 +2,8 @@
 use mathlib.Core.Path.{refl}
 use native.Mathlib.Omega.{arith}
 use borrow.Author.Rules.{rules}
-use Rattle.store.proofs.Ends.{some-store, no_store}
-use Rattle.store.proofs.TopLayer.{top-low}
+use Rattle.store.proofs.Ends.{some_store, no_store}
+use Rattle.store.proofs.TopLayer.{top_low}
 use Rattle.set_layers.proofs.Answers.{part_none}
 use Rattle.set_layers.proofs.handed.Statement.{statement}
 use Rattle.set_layers.proofs.handed.Tie as tie
@@ -24,7 +24,7 @@ part-requires : tie.Need-part-requires
 part-requires c κs =
     let y = c.before in
     let s = y.before.before in
-    (some-store s.args.store.now y.capacity.ensures c.if1.false, omega (arith, s.requires, top-low y.capacity.result))
+    (some_store s.args.store.now y.capacity.ensures c.if1.false, omega (arith, s.requires, top_low y.capacity.result))
 
 returns-2 : tie.Need-returns-2
 returns-2 c = c.part.ensures

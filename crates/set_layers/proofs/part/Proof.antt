@@ -5,7 +5,7 @@ use native.Mathlib.Omega.{arith}
 use borrow.Author.Rules.{rules}
 use lib.ListN.{length}
 use Rattle.store.proofs.Ends.{part}
-use Rattle.set_layers.proofs.Answers.{part-is}
+use Rattle.set_layers.proofs.Answers.{part_is}
 use Rattle.set_layers.proofs.part.Statement.{statement}
 use Rattle.set_layers.proofs.part.Tie as tie
 
@@ -38,7 +38,7 @@ returns : tie.Need-returns
 returns c =
     let e = c.before in
     let s = e.before.before.before in
-    part-is s.args.store _ s.requires.0 s.args.k _ _ s.requires.1 e.before.start.ensures e.end.ensures refl refl
+    part_is s.args.store _ s.requires.0 s.args.k _ _ s.requires.1 e.before.start.ensures e.end.ensures refl refl
 
 pub part-spec : {M : Type 1} → statement M
 part-spec =

@@ -1,6 +1,6 @@
 -- `contains` meets its contract. Assumes nothing.
 use borrow.Author.Rules.{rules}
-use Rattle.set_member.proofs.Answers.{has-is, contains-2, contains-past, contains-is}
+use Rattle.set_member.proofs.Answers.{has_is, contains_2, contains_past, contains_is}
 use Rattle.set_member.proofs.Places.{inside, outside, nowhere}
 use Rattle.set_member.proofs.contains.Statement.{statement}
 use Rattle.set_member.proofs.contains.Tie as tie
@@ -26,20 +26,20 @@ returns c =
     let l = w.before.before in
     let a = l.before.before.args in
     let z = inside _ _ l.locate.ensures w.w.given.1 in
-    contains-is a.store.now a.id _ z.placed c.is_set.result
-    (has-is _ a.store.now a.id _ c.is_set.result z.word-is c.is_set.ensures)
+    contains_is a.store.now a.id _ z.placed c.is_set.result
+    (has_is _ a.store.now a.id _ c.is_set.result z.word-is c.is_set.ensures)
 
 returns-2 : tie.Need-returns-2
 returns-2 c =
     let l = c.before.before in
     let a = l.before.before.args in
-    contains-past a.store.now a.id (outside _ _ l.locate.ensures c.enum_told.given.1)
+    contains_past a.store.now a.id (outside _ _ l.locate.ensures c.enum_told.given.1)
 
 returns-3 : tie.Need-returns-3
 returns-3 c =
     let l = c.before.before in
     let a = l.before.before.args in
-    contains-2 a.store.now a.id (nowhere _ _ l.locate.ensures c.enum-told2.given.1)
+    contains_2 a.store.now a.id (nowhere _ _ l.locate.ensures c.enum-told2.given.1)
 
 pub contains-spec : {M : Type 1} → statement M
 contains-spec =

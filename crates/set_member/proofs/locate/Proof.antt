@@ -4,9 +4,9 @@ use native.Mathlib.Omega.{arith}
 use borrow.Author.Rules.{rules}
 use borrow.Author.Tests.{ltb-true}
 use Rattle.store.specs.Layout.{StoreOf}
-use Rattle.store.proofs.Ends.{some-store, no_store, start_is}
+use Rattle.store.proofs.Ends.{some_store, no_store, start_is}
 use Rattle.set_member.specs.Place.{Placed}
-use Rattle.set_member.proofs.Places.{is-nowhere, is-in, is-past}
+use Rattle.set_member.proofs.Places.{is_nowhere, is_in, is_past}
 use Rattle.set_member.proofs.locate.Statement.{statement}
 use Rattle.set_member.proofs.locate.Tie as tie
 
@@ -17,11 +17,11 @@ returns : tie.Need-returns
 returns c =
     let y = c.before in
     let a = y.before.before.args in
-    is-nowhere a.store.now a.id (no_store a.store.now y.capacity.ensures c.if1.true)
+    is_nowhere a.store.now a.id (no_store a.store.now y.capacity.ensures c.if1.true)
 
 -- past the first test the slice is a store
-store-here : (c : tie.Else1) → StoreOf c.before.capacity.result c.before.before.before.args.store.now
-store-here c = some-store c.before.before.before.args.store.now c.before.capacity.ensures c.if1.false
+store_here : (c : tie.Else1) → StoreOf c.before.capacity.result c.before.before.before.args.store.now
+store_here c = some_store c.before.before.before.args.store.now c.before.capacity.ensures c.if1.false
 
 has-room-requires : tie.Need-has-room-requires
 has-room-requires c κs = search rules
@@ -32,7 +32,7 @@ placed-here : (c : tie.Then2) →
     Placed y.before.before.args.store.now y.capacity.result y.before.before.args.id 0
 placed-here c =
     let h = c.before in
-    record { store = store-here h.before; below = ltb-true _ _ (sym h.has_room.ensures ∙ c.if2.true); layer = omega arith }
+    record { store = store_here h.before; below = ltb-true _ _ (sym h.has_room.ensures ∙ c.if2.true); layer = omega arith }
 
 start-requires : tie.Need-start-requires
 start-requires c κs = search rules
@@ -44,11 +44,11 @@ returns-2 : tie.Need-returns-2
 returns-2 c =
     let a = c.before in
     let h = a.before.before in
-    let z = store-here h.before in
-    is-in _ _ z (sym h.has_room.ensures ∙ a.before.if2.true) (a.start.ensures ∙ start_is z 0) c.word0.ensures
+    let z = store_here h.before in
+    is_in _ _ z (sym h.has_room.ensures ∙ a.before.if2.true) (a.start.ensures ∙ start_is z 0) c.word0.ensures
 
 returns-3 : tie.Need-returns-3
-returns-3 c = let h = c.before in is-past _ _ (store-here h.before) (sym h.has_room.ensures ∙ c.if2.false)
+returns-3 c = let h = c.before in is_past _ _ (store_here h.before) (sym h.has_room.ensures ∙ c.if2.false)
 
 pub locate-spec : {M : Type 1} → statement M
 locate-spec = tie.close (tie.spec capacity-requires returns has-room-requires start-requires word0-requires returns-2 returns-3)

@@ -7,13 +7,13 @@ use native.Mathlib.Omega.{arith}
 use borrow.Author.Rules.{rules}
 use borrow.Author.Tests.{not-true, not-false}
 use lib.ListN.{length, drop}
-use Rattle.set_superset.specs.Calls.{allHeld}
-use Rattle.set_superset.proofs.Held.{held-turn, held-end}
+use Rattle.set_superset.specs.Calls.{all_held}
+use Rattle.set_superset.proofs.Held.{held_turn, held_end}
 use Rattle.set_superset.proofs.all_held.Statement.{statement}
 use Rattle.set_superset.proofs.all_held.Tie as tie
 
 abbrev invariant-loop : tie.invariant-loop
-invariant-loop store ids i₀ i = (i ≤ length ids) × (allHeld store (drop i ids) ≡ allHeld store ids)
+invariant-loop store ids i₀ i = (i ≤ length ids) × (all_held store (drop i ids) ≡ all_held store ids)
 
 abbrev decreases-loop : tie.decreases-loop
 decreases-loop store ids i₀ i = length ids - i
@@ -34,12 +34,12 @@ is-member-requires c κs = search rules
 turn : (c : tie.After-is-member invariant-loop decreases-loop) (b : Bool) → c.is_member.result ≡ b →
     let l = c.before.before.before in
     let a = l.before.before.before.args in
-    allHeld a.store.now (drop l.loop.i a.ids.now) ≡ (b && allHeld a.store.now (drop (suc l.loop.i) a.ids.now))
+    all_held a.store.now (drop l.loop.i a.ids.now) ≡ (b && all_held a.store.now (drop (suc l.loop.i) a.ids.now))
 turn c b e =
     let l = c.before.before.before in
     let a = l.before.before.before.args in
-    held-turn a.store.now a.ids.now l.loop.i (omega arith)
-    ∙ ap (λ (x : Bool). x && allHeld a.store.now (drop (suc l.loop.i) a.ids.now)) (sym c.is_member.ensures ∙ e)
+    held_turn a.store.now a.ids.now l.loop.i (omega arith)
+    ∙ ap (λ (x : Bool). x && all_held a.store.now (drop (suc l.loop.i) a.ids.now)) (sym c.is_member.ensures ∙ e)
 
 returns : tie.Need-returns invariant-loop decreases-loop
 returns c =
@@ -58,7 +58,7 @@ loop-again c =
     let l = r.before.before.before in
     let a = l.before.before.before.args in (
       omega arith,
-      ap (λ (x : ℕ). allHeld a.store.now (drop x a.ids.now)) (add-one l.loop.i)
+      ap (λ (x : ℕ). all_held a.store.now (drop x a.ids.now)) (add-one l.loop.i)
           ∙ sym (turn r true (not-false _ c.if1.false)) ∙ l.loop.invariant.1,
     )
 
@@ -66,7 +66,7 @@ returns-2 : tie.Need-returns-2 invariant-loop decreases-loop
 returns-2 c =
     let l = c.before in
     let a = l.before.before.before.args in
-    sym (sym l.loop.invariant.1 ∙ held-end a.store.now a.ids.now l.loop.i (omega arith))
+    sym (sym l.loop.invariant.1 ∙ held_end a.store.now a.ids.now l.loop.i (omega arith))
 
 pub all-held-spec : {M : Type 1} → statement M
 all-held-spec =

@@ -4,8 +4,8 @@ use native.Mathlib.Omega.{arith}
 use borrow.Author.Rules.{rules}
 use borrow.Author.Tests.{not-true, not-false}
 use Rattle.store.specs.Word.{Words64}
-use Rattle.walk_batches.proofs.Batches.{toGo, Turn, turn, batch-length, less-to-go}
-use Rattle.set_superset.proofs.Batches.{Holding, holding-start, one-lacks, all_there, holding-on}
+use Rattle.walk_batches.proofs.Batches.{to_go, Turn, turn, batch-length, less_to_go}
+use Rattle.set_superset.proofs.Batches.{Holding, holding_start, one_lacks, all_there, holding-on}
 use Rattle.set_superset.proofs.all_walked.Statement.{statement}
 use Rattle.set_superset.proofs.all_walked.Tie as tie
 
@@ -13,7 +13,7 @@ abbrev invariant-loop : tie.invariant-loop
 invariant-loop store other ids₀ c₀ ids c = Holding store other ids c
 
 abbrev decreases-loop : tie.decreases-loop
-decreases-loop store other ids₀ c₀ ids c = toGo other c
+decreases-loop store other ids₀ c₀ ids c = to_go other c
 
 started-requires : tie.Need-started-requires invariant-loop decreases-loop
 started-requires c κs = search rules
@@ -25,7 +25,7 @@ words c x = (c.before.shared-slice-known2.given x).fits
 loop-holds : tie.Need-loop-init invariant-loop decreases-loop
 loop-holds c =
     let s = c.before.before.before in
-    holding-start s.args.store.now s.args.other.now s.requires.1 (words c) c.started.result (omega arith) c.started.ensures
+    holding_start s.args.store.now s.args.other.now s.requires.1 (words c) c.started.result (omega arith) c.started.ensures
 
 slice-aggregate-fill : tie.Need-slice-aggregate-fill invariant-loop decreases-loop
 slice-aggregate-fill c = sym c.before.loop.invariant.at.long
@@ -55,7 +55,7 @@ returns : tie.Need-returns invariant-loop decreases-loop
 returns c =
     let h = c.before in
     let f = h.before.before.before in
-    one-lacks f.before.before.loop.invariant (batch-here f) (sym h.all_held.ensures ∙ not-true _ c.if1.true)
+    one_lacks f.before.before.loop.invariant (batch-here f) (sym h.all_held.ensures ∙ not-true _ c.if1.true)
 
 goes-on-requires : tie.Need-goes-on-requires invariant-loop decreases-loop
 goes-on-requires c κs = search rules
@@ -73,7 +73,7 @@ loop-less c =
     let e = c.before in
     let o = e.before in
     let f = o.before.before.before.before.before in
-    less-to-go (batch-here f) (omega arith) (sym o.goes_on.ensures ∙ not-false _ e.if2.false)
+    less_to_go (batch-here f) (omega arith) (sym o.goes_on.ensures ∙ not-false _ e.if2.false)
 
 loop-again : tie.Need-loop-preserved invariant-loop decreases-loop
 loop-again c =

@@ -1,6 +1,6 @@
--- `is_member` meets its contract. Assumes nothing.
+-- `is_member_lem` meets its contract. Assumes nothing.
 use borrow.Author.Rules.{rules}
-use Rattle.set_superset.proofs.Held.{contains-says}
+use Rattle.set_superset.proofs.Held.{contains_says}
 use Rattle.set_superset.proofs.is_member.Statement.{statement}
 use Rattle.set_superset.proofs.is_member.Tie as tie
 
@@ -18,13 +18,13 @@ returns c =
     let y = c.before in
     let l = y.before.before in
     let s = l.before.before in
-    contains-says s.args.store.now s.args.id s.requires l.contains.ensures y.yes.given.1
+    contains_says s.args.store.now s.args.id s.requires l.contains.ensures y.yes.given.1
 
 returns-2 : tie.Need-returns-2
 returns-2 c =
     let l = c.before.before in
     let s = l.before.before in
-    contains-says s.args.store.now s.args.id s.requires l.contains.ensures c.enum_told.given.1
+    contains_says s.args.store.now s.args.id s.requires l.contains.ensures c.enum_told.given.1
 
 pub is-member-spec : {M : Type 1} → statement M
 is-member-spec = tie.close (tie.spec contains-requires enum-known-yes enum_told returns returns-2)

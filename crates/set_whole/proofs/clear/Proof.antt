@@ -1,7 +1,7 @@
 -- `clear` meets its contract. Assumes nothing.
 use borrow.Author.Rules.{rules}
-use Rattle.store.proofs.Ends.{some-store, no_store}
-use Rattle.set_whole.proofs.Answers.{clear-2, clear-done}
+use Rattle.store.proofs.Ends.{some_store, no_store}
+use Rattle.set_whole.proofs.Answers.{clear_2, clear_done}
 use Rattle.set_whole.proofs.clear.Statement.{statement}
 use Rattle.set_whole.proofs.clear.Tie as tie
 
@@ -15,7 +15,7 @@ returns : tie.Need-returns
 returns c =
     let y = c.before in
     let s = y.before.before.before.args.store.now in
-    clear-2 s (no_store s y.capacity.ensures c.if1.true)
+    clear_2 s (no_store s y.capacity.ensures c.if1.true)
 
 empty-requires : tie.Need-empty-requires
 empty-requires c κs = search rules
@@ -29,7 +29,7 @@ returns-2 c =
     let e = m.before.before in
     let y = e.before in
     let s = y.before.before.before.args.store.now in
-    clear-done (some-store s y.capacity.ensures e.if1.false) _ m.empty.ensures
+    clear_done (some_store s y.capacity.ensures e.if1.false) _ m.empty.ensures
 
 pub clear_spec : {M : Type 1} → statement M
 clear_spec =

@@ -1,7 +1,7 @@
 -- `is_empty` meets its contract. Assumes nothing.
 use borrow.Author.Rules.{rules}
-use Rattle.store.proofs.Ends.{some-store, no_store}
-use Rattle.set_whole.proofs.Answers.{is-empty-2, is-empty-is}
+use Rattle.store.proofs.Ends.{some_store, no_store}
+use Rattle.set_whole.proofs.Answers.{is_empty_2, is_empty_is}
 use Rattle.set_whole.proofs.is_empty.Statement.{statement}
 use Rattle.set_whole.proofs.is_empty.Tie as tie
 
@@ -12,7 +12,7 @@ returns : tie.Need-returns
 returns c =
     let y = c.before in
     let s = y.before.before.args.store.now in
-    is-empty-2 s (no_store s y.capacity.ensures c.if1.true)
+    is_empty_2 s (no_store s y.capacity.ensures c.if1.true)
 
 top-word-requires : tie.Need-top-word-requires
 top-word-requires c κs = search rules
@@ -22,7 +22,7 @@ returns-2 c =
     let n = c.before in
     let y = n.before in
     let s = y.before.before.args.store.now in
-    is-empty-is (some-store s y.capacity.ensures n.if1.false) _ c.top-word.ensures
+    is_empty_is (some_store s y.capacity.ensures n.if1.false) _ c.top-word.ensures
 
 pub is_empty_spec : {M : Type 1} → statement M
 is_empty_spec =

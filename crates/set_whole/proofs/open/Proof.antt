@@ -1,7 +1,7 @@
 -- `open` meets its contract. Assumes nothing.
 use mathlib.Core.Path.{sym, ◌∙◌}
 use borrow.Author.Rules.{rules}
-use Rattle.set_whole.proofs.Answers.{open-refused, open_done}
+use Rattle.set_whole.proofs.Answers.{open_refused, open_done}
 use Rattle.set_whole.proofs.open.Statement.{statement}
 use Rattle.set_whole.proofs.open.Tie as tie
 
@@ -12,7 +12,7 @@ returns : tie.Need-returns
 returns c =
     let o = c.before in
     let a = o.before.before.args in
-    open-refused a.store.now a.n o.can-open.ensures c.if1.true
+    open_refused a.store.now a.n o.can-open.ensures c.if1.true
 
 empty-requires : tie.Need-empty-requires
 empty-requires c κs = search rules

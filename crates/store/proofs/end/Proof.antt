@@ -1,7 +1,7 @@
 -- `store::end` meets its contract: each layer's end is a sum of plain divisions. Assumes nothing.
 use Rattle.std.proofs.Common.{◌≡◌, suc, ◌%◌, refl, arith, rules}
 use Rattle.store.specs.Layout.{folded}
-use Rattle.store.proofs.Ends.{end-at, end-above, end3, end2, end1, end0}
+use Rattle.store.proofs.Ends.{end_at, end_above, end3, end2, end1, end0}
 use Rattle.store.proofs.end.Statement.{statement}
 use Rattle.store.proofs.end.Tie as tie
 
@@ -34,22 +34,22 @@ taken : (c : tie.After-wrapping-sub-u64) → suc (c.wrapping-sub-u64.result % 16
 taken c = omega (arith, c.wrapping-sub-u64.ensures)
 
 returns : tie.Need-returns
-returns c = end-at _ _ _ (taken c.before) _ 0 (end0 _) c.match.keys1
+returns c = end_at _ _ _ (taken c.before) _ 0 (end0 _) c.match.keys1
 
 returns-2 : tie.Need-returns-2
-returns-2 c = end-at _ _ _ (taken c.before) _ 1 (end1 _) c.match.keys2
+returns-2 c = end_at _ _ _ (taken c.before) _ 1 (end1 _) c.match.keys2
 
 returns-3 : tie.Need-returns-3
-returns-3 c = end-at _ _ _ (taken c.before) _ 2 (end2 _) c.match.keys3
+returns-3 c = end_at _ _ _ (taken c.before) _ 2 (end2 _) c.match.keys3
 
 returns-4 : tie.Need-returns-4
-returns-4 c = end-at _ _ _ (taken c.before) _ 3 (end3 _) c.match.keys4
+returns-4 c = end_at _ _ _ (taken c.before) _ 3 (end3 _) c.match.keys4
 
 returns-5 : tie.Need-returns-5
 returns-5 c =
     let r = c.match.rest in
     let k = c.before.before.args.k in
-    end-at _ _ _ (taken c.before) _ k (λ m. end-above _ m k (omega (arith, r.1, r.0.1, r.0.0.1, r.0.0.0.1))) refl
+    end_at _ _ _ (taken c.before) _ k (λ m. end_above _ m k (omega (arith, r.1, r.0.1, r.0.0.1, r.0.0.0.1))) refl
 
 pub end-spec : {M : Type 1} → statement M
 end-spec =

@@ -1,6 +1,6 @@
 -- `store::length` meets its contract. Assumes nothing.
 use Rattle.std.proofs.Common.{sym, rules}
-use Rattle.store.proofs.Ends.{length-is}
+use Rattle.store.proofs.Ends.{length_is}
 use Rattle.store.proofs.length.Statement.{statement}
 use Rattle.store.proofs.length.Tie as tie
 
@@ -20,7 +20,7 @@ add-result-4 : tie.Need-overflow-add-result-4
 add-result-4 c = search rules
 
 returns : tie.Need-returns
-returns c = sym (length-is _ c.requires.0 c.requires.1)
+returns c = sym (length_is _ c.requires.0 c.requires.1)
 
 pub length_spec : {M : Type 1} → statement M
 length_spec = tie.close (tie.spec sub-m add-result add-result-2 add-result-3 add-result-4 returns)

@@ -1,6 +1,6 @@
 -- `store::start` meets its contract. Assumes nothing.
 use Rattle.std.proofs.Common.{arith, rules}
-use Rattle.store.proofs.Ends.{start-low, start-mid, start-high}
+use Rattle.store.proofs.Ends.{start_low, start_mid, start_high}
 use Rattle.store.proofs.start.Statement.{statement}
 use Rattle.store.proofs.start.Tie as tie
 
@@ -20,16 +20,16 @@ end-requires-3 : tie.Need-end-requires-3
 end-requires-3 c κs = search rules
 
 returns : tie.Need-returns
-returns c = start-low _ _ _ c.before.before.match.keys1 c.before.words-for.ensures (search rules) c.wrapping-sub-u64.ensures
+returns c = start_low _ _ _ c.before.before.match.keys1 c.before.words-for.ensures (search rules) c.wrapping-sub-u64.ensures
 
 returns-2 : tie.Need-returns-2
-returns-2 c = start-mid _ _ 0 c.before.match.keys2 c.end.ensures
+returns-2 c = start_mid _ _ 0 c.before.match.keys2 c.end.ensures
 
 returns-3 : tie.Need-returns-3
-returns-3 c = start-mid _ _ 1 c.before.match.keys3 c.end2.ensures
+returns-3 c = start_mid _ _ 1 c.before.match.keys3 c.end2.ensures
 
 returns-4 : tie.Need-returns-4
-returns-4 c = let r = c.before.match.rest in start-high _ _ _ (omega (arith, r.1, r.0.1, r.0.0.1)) c.end3.ensures
+returns-4 c = let r = c.before.match.rest in start_high _ _ _ (omega (arith, r.1, r.0.1, r.0.0.1)) c.end3.ensures
 
 pub start_spec : {M : Type 1} → statement M
 start_spec =

@@ -1,6 +1,6 @@
 -- `store::words_for` meets its contract. Assumes nothing.
 use Rattle.std.proofs.Common.{arith, rules}
-use Rattle.store.specs.Layout.{wordsFor}
+use Rattle.store.specs.Layout.{words_for}
 use Rattle.store.proofs.words_for.Statement.{statement}
 use Rattle.store.proofs.words_for.Tie as tie
 
@@ -11,7 +11,7 @@ add-result : tie.Need-overflow-add-result
 add-result c = search rules
 
 returns : tie.Need-returns
-unfolding wordsFor
+unfolding words_for
 returns c = omega (arith, c.wrapping-sub-u64.ensures)
 
 pub words-for-spec : {M : Type 1} → statement M

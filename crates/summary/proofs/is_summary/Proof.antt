@@ -10,18 +10,18 @@ use lib.Dec.{eqb}
 use lib.ListN.{length, get_or, take, drop}
 use Rattle.util.specs.Word.{same}
 use Rattle.store.specs.Build.{summary}
-use Rattle.summary.proofs.Layers.{begins, soundAhead, ahead-start, ahead-turn, ahead-end}
+use Rattle.summary.proofs.Layers.{begins, sound_ahead, ahead_start, ahead_turn, ahead_end}
 use Rattle.summary.proofs.is_summary.Statement.{statement}
 use Rattle.summary.proofs.is_summary.Tie as tie
 
 abbrev invariant-loop : tie.invariant-loop
-invariant-loop part up i₀ i = soundAhead up part i ≡ same (take up part) (summary (drop up part))
+invariant-loop part up i₀ i = sound_ahead up part i ≡ same (take up part) (summary (drop up part))
 
 abbrev decreases-loop : tie.decreases-loop
 decreases-loop part up i₀ i = up - i
 
 loop-holds : tie.Need-loop-init invariant-loop decreases-loop
-loop-holds c = ahead-start c.before.requires
+loop-holds c = ahead_start c.before.requires
 
 -- the word stands in the part
 inside : (c : tie.In-loop invariant-loop decreases-loop) → c.before.loop.i < length c.before.before.before.args.part.now
@@ -51,13 +51,13 @@ turned : (c : tie.After-gather invariant-loop decreases-loop) (b : Bool)
     → let h = c.before.before.before in
     let a = h.before.before.args in
     eqb (get_or a.part.now h.loop.i 0) c.gather.result ≡ b
-    → same (take a.up a.part.now) (summary (drop a.up a.part.now)) ≡ (b && soundAhead a.up a.part.now (suc h.loop.i))
+    → same (take a.up a.part.now) (summary (drop a.up a.part.now)) ≡ (b && sound_ahead a.up a.part.now (suc h.loop.i))
 turned c b e =
     let h = c.before.before.before in
     let a = h.before.before.args in
     sym h.loop.invariant
-    ∙ ahead-turn h.before.before.requires h.loop.i c.gather.result c.before.before.loop-test.true c.gather.ensures
-    ∙ ap (λ (x : Bool). x && soundAhead a.up a.part.now (suc h.loop.i)) e
+    ∙ ahead_turn h.before.before.requires h.loop.i c.gather.result c.before.before.loop-test.true c.gather.ensures
+    ∙ ap (λ (x : Bool). x && sound_ahead a.up a.part.now (suc h.loop.i)) e
 
 returns : tie.Need-returns invariant-loop decreases-loop
 returns c =
@@ -78,7 +78,7 @@ loop-again c =
     rw add-one (sym (turned c.before true (eq-eqb w c.before.gather.result (omega (arith, c.if1.false)))))
 
 returns-2 : tie.Need-returns-2 invariant-loop decreases-loop
-returns-2 c = sym (ahead-end c.before.before.before.requires c.before.loop.i c.loop-test.false) ∙ c.before.loop.invariant
+returns-2 c = sym (ahead_end c.before.before.before.requires c.before.loop.i c.loop-test.false) ∙ c.before.loop.invariant
 
 pub is-summary-spec : {M : Type 1} → statement M
 is-summary-spec =

@@ -6,9 +6,9 @@ use native.Mathlib.Omega.{arith}
 use borrow.Author.Rules.{rules}
 use borrow.Author.Tests.{not-true, not-false}
 use Rattle.store.specs.Layout.{top}
-use Rattle.store.proofs.TopLayer.{top-high}
-use Rattle.summary.proofs.Last.{some_word, sound-end, sound-fault}
-use Rattle.summary.proofs.Layers.{Raised, raised-start, over, within-store, two-layers, right-turn, wrong-turn, raised-end}
+use Rattle.store.proofs.TopLayer.{top_high}
+use Rattle.summary.proofs.Last.{some_word, sound_end, sound_fault}
+use Rattle.summary.proofs.Layers.{Raised, raised_start, over, within_store, two_layers, right_turn, wrong_turn, raised_end}
 use Rattle.summary.proofs.sound.Statement.{statement}
 use Rattle.summary.proofs.sound.Tie as tie
 
@@ -22,7 +22,7 @@ top-requires : tie.Need-top-requires invariant-loop decreases-loop
 top-requires c κs = search rules
 
 loop-holds : tie.Need-loop-init invariant-loop decreases-loop
-loop-holds c = (c.top.ensures, raised-start c.before.before.requires)
+loop-holds c = (c.top.ensures, raised_start c.before.before.requires)
 
 -- there is a layer over layer `k`
 above : (c : tie.In-loop invariant-loop decreases-loop) → c.before.loop.k < top c.before.before.before.before.args.n
@@ -33,7 +33,7 @@ two-requires c κs = over c.before.before.before.before.requires c.before.loop.i
 
 mul-is-summary : tie.Need-overflow-mul-is-summary invariant-loop decreases-loop
 mul-is-summary c =
-    let d = c.before in omega (arith, c.two.ensures.size, within-store d.before.before.before.before.requires d.before.loop.invariant.1 c.two.ensures)
+    let d = c.before in omega (arith, c.two.ensures.size, within_store d.before.before.before.before.requires d.before.loop.invariant.1 c.two.ensures)
 
 sub-is-summary : tie.Need-overflow-sub-is-summary invariant-loop decreases-loop
 sub-is-summary c = omega (arith, c.two.ensures.size)
@@ -43,13 +43,13 @@ part-is-summary-start c = omega (arith, c.two.ensures.size)
 
 part-is-summary-end : tie.Need-slice-bounds-is-summary-end invariant-loop decreases-loop
 part-is-summary-end c =
-    let d = c.before in within-store d.before.before.before.before.requires d.before.loop.invariant.1 c.two.ensures
+    let d = c.before in within_store d.before.before.before.before.requires d.before.loop.invariant.1 c.two.ensures
 
 is-summary-requires : tie.Need-is-summary-requires invariant-loop decreases-loop
 is-summary-requires c κs =
     let p = c.before in
     let d = p.before in
-    two-layers d.before.before.before.before.requires d.before.loop.invariant.1 p.two.ensures
+    two_layers d.before.before.before.before.requires d.before.loop.invariant.1 p.two.ensures
 
 returns : tie.Need-returns invariant-loop decreases-loop
 returns c =
@@ -57,11 +57,11 @@ returns c =
     let p = q.before.before in
     let d = p.before in
     let s = d.before.before.before.before in
-    sound-fault s.requires
-    (wrong-turn s.requires d.before.loop.invariant.1 p.two.ensures (above d) (sym q.is-summary.ensures ∙ not-true _ c.if1.true))
+    sound_fault s.requires
+    (wrong_turn s.requires d.before.loop.invariant.1 p.two.ensures (above d) (sym q.is-summary.ensures ∙ not-true _ c.if1.true))
 
 add-k : tie.Need-overflow-add-k invariant-loop decreases-loop
-add-k c = let d = c.before.before.before.before in omega (arith, above d, top-high d.before.before.before.before.args.n)
+add-k c = let d = c.before.before.before.before in omega (arith, above d, top_high d.before.before.before.before.args.n)
 
 loop-less : tie.Need-loop-smaller invariant-loop decreases-loop
 loop-less c = omega (arith, c.before.before.before.before.loop-test.true)
@@ -73,7 +73,7 @@ loop-again c =
     let d = p.before in (
       d.before.loop.invariant.0,
       rw add-one
-          (right-turn d.before.before.before.before.requires d.before.loop.invariant.1 p.two.ensures (above d)
+          (right_turn d.before.before.before.before.requires d.before.loop.invariant.1 p.two.ensures (above d)
           (sym q.is-summary.ensures ∙ not-false _ c.if1.false)),
     )
 
@@ -96,7 +96,7 @@ returns-2 : tie.Need-returns-2 invariant-loop decreases-loop
 returns-2 c =
     let d = c.before in
     let s = d.before.before.before.before in
-    sound-end s.requires (raised-end s.requires d.before.loop.invariant.1 (omega (arith, d.loop-test.false, d.before.loop.invariant.0)))
+    sound_end s.requires (raised_end s.requires d.before.loop.invariant.1 (omega (arith, d.loop-test.false, d.before.loop.invariant.0)))
 
 pub sound-spec : {M : Type 1} → statement M
 sound-spec =

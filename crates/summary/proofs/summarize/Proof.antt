@@ -4,7 +4,7 @@ use native.Mathlib.Numerals.{add-one}
 use native.Mathlib.Omega.{arith}
 use borrow.Author.Rules.{rules}
 use lib.ListN.{length}
-use Rattle.summary.proofs.Layers.{Written, begins, two-kept, written_start, written-turn, written-end}
+use Rattle.summary.proofs.Layers.{Written, begins, two_kept, written_start, written_turn, written_end}
 use Rattle.summary.proofs.summarize.Statement.{statement}
 use Rattle.summary.proofs.summarize.Tie as tie
 
@@ -22,7 +22,7 @@ under : (c : tie.In-loop invariant-loop decreases-loop) → c.before.before.befo
 under c =
     let h = c.before in
     let z = h.before.before.requires in
-    begins (two-kept z h.loop.invariant) h.loop.i c.loop-test.true
+    begins (two_kept z h.loop.invariant) h.loop.i c.loop-test.true
 
 mul-gather : tie.Need-overflow-mul-gather invariant-loop decreases-loop
 mul-gather c = omega (arith, under c.before)
@@ -52,13 +52,13 @@ loop-less c = omega (arith, c.before.before.loop-test.true)
 loop-again : tie.Need-loop-preserved invariant-loop decreases-loop
 loop-again c =
     let d = c.before.before in
-    rw add-one (written-turn d.before.before.before.requires d.before.loop.invariant d.loop-test.true c.gather.result c.gather.ensures)
+    rw add-one (written_turn d.before.before.before.requires d.before.loop.invariant d.loop-test.true c.gather.result c.gather.ensures)
 
 same_length : tie.Need-same-length invariant-loop decreases-loop
 same_length c = c.before.loop.invariant.long
 
 returns : tie.Need-returns invariant-loop decreases-loop
-returns c = written-end c.before.before.before.requires c.before.loop.invariant c.loop-test.false
+returns c = written_end c.before.before.before.requires c.before.loop.invariant c.loop-test.false
 
 pub summarize-spec : {M : Type 1} → statement M
 summarize-spec =

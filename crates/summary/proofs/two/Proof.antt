@@ -1,14 +1,14 @@
 -- `two` meets its contract: the upper layer ends where the lower one starts. Assumes nothing.
 use mathlib.Core.Path.{refl}
 use native.Mathlib.Omega.{arith}
-use Rattle.store.proofs.TopLayer.{top-high}
+use Rattle.store.proofs.TopLayer.{top_high}
 use Rattle.summary.proofs.Layers.{paired}
 use borrow.Author.Rules.{rules}
 use Rattle.summary.proofs.two.Statement.{statement}
 use Rattle.summary.proofs.two.Tie as tie
 
 add_start : tie.Need-overflow-add-start
-add_start c = omega (arith, c.requires.above, top-high c.args.n)
+add_start c = omega (arith, c.requires.above, top_high c.args.n)
 
 start-requires : tie.Need-start-requires
 start-requires c κs = search rules

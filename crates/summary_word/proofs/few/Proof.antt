@@ -3,7 +3,7 @@ use mathlib.Core.Path.{◌≡◌, ap, ◌∙◌}
 use Prim.Native.Nat.{ℕ, ◌+◌, ◌-◌, ◌^◌, ◌≤◌, ◌<◌}
 use native.Mathlib.Omega.{arith}
 use borrow.Author.Rules.{rules}
-use Rattle.summary_word.proofs.Gathered.{spanned, spanned-none, spanned-turn, spanned-room}
+use Rattle.summary_word.proofs.Gathered.{spanned, spanned_none, spanned_turn, spanned_room}
 use Rattle.summary_word.proofs.few.Statement.{statement}
 use Rattle.summary_word.proofs.few.Tie as tie
 
@@ -14,7 +14,7 @@ abbrev decreases-loop : tie.decreases-loop
 decreases-loop part b n i₀ x₀ i x = i
 
 loop-holds : tie.Need-loop-init invariant-loop decreases-loop
-loop-holds c = let a = c.before.args in (omega arith, spanned-none a.part.now (a.b + a.n) (a.n - a.n) (omega arith))
+loop-holds c = let a = c.before.args in (omega arith, spanned_none a.part.now (a.b + a.n) (a.n - a.n) (omega arith))
 
 sub-i : tie.Need-overflow-sub-i invariant-loop decreases-loop
 sub-i c = search rules
@@ -26,7 +26,7 @@ add-j c = search rules
 small : (c : tie.In-loop invariant-loop decreases-loop) → c.before.loop.x < 2 ^ 56
 small c =
     let a = c.before.before.before.args in
-    omega (arith, c.before.loop.invariant.1, spanned-room a.part.now (a.b + c.before.loop.i) (a.n - c.before.loop.i) (omega (arith, c.before.before.before.requires.1)))
+    omega (arith, c.before.loop.invariant.1, spanned_room a.part.now (a.b + c.before.loop.i) (a.n - c.before.loop.i) (omega (arith, c.before.before.before.requires.1)))
 
 mul-x : tie.Need-overflow-mul-x invariant-loop decreases-loop
 mul-x c = omega (arith, small c)
@@ -52,7 +52,7 @@ loop-again c =
     let a = h.before.before.args in
     let t = c.before.before.loop-test.true in (
       omega (arith, h.loop.invariant.0),
-      spanned-turn a.part.now (a.b + (h.loop.i - 1)) (a.b + h.loop.i) (a.n - h.loop.i) (a.n - (h.loop.i - 1)) (omega arith)
+      spanned_turn a.part.now (a.b + (h.loop.i - 1)) (a.b + h.loop.i) (a.n - h.loop.i) (a.n - (h.loop.i - 1)) (omega arith)
           (omega (arith, h.loop.invariant.0)) (omega (arith, h.loop.invariant.0, h.before.before.requires.0)) h.loop.invariant.1 c.mark.ensures.0,
     )
 

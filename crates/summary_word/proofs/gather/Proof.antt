@@ -4,7 +4,7 @@ use mathlib.Core.Path.{◌≡◌, ap, ◌∙◌}
 use Prim.Native.Nat.{ℕ, ◌+◌, ◌-◌, ◌*◌, ◌/◌, ◌%◌, ◌^◌, ◌≤◌, ◌<◌, min}
 use native.Mathlib.Omega.{arith}
 use lib.ListN.{length}
-use Rattle.summary_word.proofs.Gathered.{spanned, spanned-lt, spanned-eight, spanned-room, spanned-all, spanned-past}
+use Rattle.summary_word.proofs.Gathered.{spanned, spanned_lt, spanned_eight, spanned_room, spanned_all, spanned_past}
 use Rattle.summary_word.proofs.gather.Statement.{statement}
 use Rattle.summary_word.proofs.gather.Tie as tie
 
@@ -23,7 +23,7 @@ ends : (c : tie.Joined2 invariant-loop decreases-loop) → let a = c.before.befo
 ends c = ⊎_elim (λ w. omega arith) (λ w. omega arith) c.if2.branch
 
 returns : tie.Need-returns invariant-loop decreases-loop
-returns c = spanned-past c.before.before.args.part.now c.before.before.args.a c.if1.true
+returns c = spanned_past c.before.before.args.part.now c.before.before.args.a c.if1.true
 
 add-if2 : tie.Need-overflow-add-if2 invariant-loop decreases-loop
 add-if2 c = omega (arith, inside c)
@@ -64,7 +64,7 @@ eight c =
     let l : a.a + 8 * h.k ≤ min (a.a + 64) (length a.part.now) = omega (arith, ends d, h.invariant.0) in (
       omega (arith, c.loop-test.true),
       omega (arith, c.loop-test.true, l),
-      omega (arith, h.invariant.1, spanned-room a.part.now (a.a + 8 * h.k) (d.if2.j - (a.a + 8 * h.k)) (omega (arith, c.loop-test.true, ends d))),
+      omega (arith, h.invariant.1, spanned_room a.part.now (a.a + 8 * h.k) (d.if2.j - (a.a + 8 * h.k)) (omega (arith, c.loop-test.true, ends d))),
     )
 
 sub-k-2 : tie.Need-overflow-sub-k-2 invariant-loop decreases-loop
@@ -89,7 +89,7 @@ four-requires c κs = omega (arith, eight c)
 first : (c : tie.After-four invariant-loop decreases-loop) → c.four.result < 16
 first c =
     let a = c.before.before.before.before.before.before.before.before.args in
-    omega (arith, c.four.ensures, spanned-lt a.part.now (a.a + 8 * (c.before.before.loop.k - 1) + 4) 4)
+    omega (arith, c.four.ensures, spanned_lt a.part.now (a.a + 8 * (c.before.before.loop.k - 1) + 4) 4)
 
 mul-x-2 : tie.Need-overflow-mul-x-2 invariant-loop decreases-loop
 mul-x-2 c = omega (arith, first c)
@@ -103,7 +103,7 @@ four-requires-2 c κs = omega (arith, eight c.before)
 add-x-2 : tie.Need-overflow-add-x-2 invariant-loop decreases-loop
 add-x-2 c =
     let a = c.before.before.before.before.before.before.before.before.before.args in
-    omega (arith, first c.before, eight c.before.before, c.four2.ensures, spanned-lt a.part.now (a.a + 8 * (c.before.before.before.loop.k - 1)) 4)
+    omega (arith, first c.before, eight c.before.before, c.four2.ensures, spanned_lt a.part.now (a.a + 8 * (c.before.before.before.loop.k - 1)) 4)
 
 loop-less : tie.Need-loop-smaller invariant-loop decreases-loop
 loop-less c = omega (arith, eight c.before.before)
@@ -116,7 +116,7 @@ loop-again c =
     let a = d.before.before.before.args in
     let w = eight i in (
       omega (arith, w, h.invariant.0),
-      spanned-eight a.part.now (a.a + 8 * (h.k - 1)) (a.a + 8 * h.k) (d.if2.j - (a.a + 8 * h.k)) (d.if2.j - (a.a + 8 * (h.k - 1))) (omega (arith, w))
+      spanned_eight a.part.now (a.a + 8 * (h.k - 1)) (a.a + 8 * h.k) (d.if2.j - (a.a + 8 * h.k)) (d.if2.j - (a.a + 8 * (h.k - 1))) (omega (arith, w))
           (omega (arith, w, h.invariant.0)) w.1 h.invariant.1 c.before.four.ensures c.four2.ensures,
     )
 
@@ -127,7 +127,7 @@ returns-2 c =
     let a = d.before.before.before.args in
     let z : a.a + 8 * h.k ≡ a.a = omega (arith, c.loop-test.false) in
     h.invariant.1 ∙ ap (λ (j : ℕ). spanned a.part.now j (d.if2.j - j)) z
-    ∙ spanned-all a.part.now a.a d.if2.j (ends d) (omega (arith, inside d.before, ends d))
+    ∙ spanned_all a.part.now a.a d.if2.j (ends d) (omega (arith, inside d.before, ends d))
 
 pub gather-spec : {M : Type 1} → statement M
 gather-spec =

@@ -3,7 +3,7 @@ use mathlib.Core.Path.{refl}
 use Prim.Native.Nat.{◌-◌}
 use borrow.Author.Rules.{rules}
 use lib.ListN.{length}
-use Rattle.text_in.proofs.Line.{Gathering, gathers-end, gathers-line, gathers-turn}
+use Rattle.text_in.proofs.Line.{Gathering, gathers_end, gathers_line, gathers_turn}
 use Rattle.text_in.proofs.gather_line.Statement.{statement}
 use Rattle.text_in.proofs.gather_line.Tie as tie
 
@@ -26,7 +26,7 @@ same_length : tie.Need-same-length invariant-loop decreases-loop
 same_length c = search rules
 
 returns : tie.Need-returns invariant-loop decreases-loop
-returns c = gathers-line c.before.before.before.loop.invariant (search rules) c.if1.true
+returns c = gathers_line c.before.before.before.loop.invariant (search rules) c.if1.true
 
 keep-requires : tie.Need-keep-requires invariant-loop decreases-loop
 keep-requires c κs = search rules
@@ -36,14 +36,14 @@ loop-less c = search rules
 
 loop-again : tie.Need-loop-preserved invariant-loop decreases-loop
 loop-again c =
-    gathers-turn c.before.before.before.before.before.before.before.loop.invariant (search rules) c.before.before.before.before.if1.false
+    gathers_turn c.before.before.before.before.before.before.before.loop.invariant (search rules) c.before.before.before.before.if1.false
     _ _ (search rules) c.before.before.keep.ensures
 
 same-length-2 : tie.Need-same-length-2 invariant-loop decreases-loop
 same-length-2 c = search rules
 
 returns-2 : tie.Need-returns-2 invariant-loop decreases-loop
-returns-2 c = gathers-end c.before.loop.invariant (search rules)
+returns-2 c = gathers_end c.before.loop.invariant (search rules)
 
 pub gather-line-spec : {M : Type 1} → statement M
 gather-line-spec =

@@ -7,7 +7,7 @@ use native.Mathlib.Omega.{arith}
 use borrow.Author.Rules.{rules}
 use lib.ListN.{length, drop}
 use Rattle.text_in.specs.Number.{digits}
-use Rattle.text_in.proofs.Digits.{Reading, reads_none, reads-some, reads_nothing, reads_more, reads_over, digits-end, digits-stop}
+use Rattle.text_in.proofs.Digits.{Reading, reads_none, reads_some, reads_nothing, reads_more, reads_over, digits_end, digits_stop}
 use Rattle.text_in.proofs.number.Statement.{statement}
 use Rattle.text_in.proofs.number.Tie as tie
 
@@ -57,12 +57,12 @@ loop-again c =
 no_digit : (c : tie.Left-loop invariant-loop decreases-loop) → digits (drop c.before.loop.at c.before.before.before.args.line.now) ≡ []
 no_digit c =
     ⊎_elim
-    (λ w. digits-end _ _ w.left)
-    (λ w. digits-stop _ _ w.0.taken (omega (arith, w.2.ensures, w.3.taken)))
+    (λ w. digits_end _ _ w.left)
+    (λ w. digits_stop _ _ w.0.taken (omega (arith, w.2.ensures, w.3.taken)))
     c.loop-test.branch
 
 returns-3 : tie.Need-returns-3 invariant-loop decreases-loop
-returns-3 c = reads-some c.before.before.loop.invariant (no_digit c.before) c.if4.true
+returns-3 c = reads_some c.before.before.loop.invariant (no_digit c.before) c.if4.true
 
 returns-4 : tie.Need-returns-4 invariant-loop decreases-loop
 returns-4 c = reads_nothing c.before.before.loop.invariant (no_digit c.before) c.if4.false

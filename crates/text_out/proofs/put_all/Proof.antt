@@ -2,7 +2,7 @@
 use Prim.Native.Nat.{◌-◌}
 use borrow.Author.Rules.{rules}
 use lib.ListN.{length}
-use Rattle.text_out.proofs.Out.{Putting, puts_none, puts-turn, puts-end}
+use Rattle.text_out.proofs.Out.{Putting, puts_none, puts_turn, puts_end}
 use Rattle.text_out.proofs.put_all.Statement.{statement}
 use Rattle.text_out.proofs.put_all.Tie as tie
 
@@ -29,13 +29,13 @@ loop-less c = search rules
 
 loop-again : tie.Need-loop-preserved invariant-loop decreases-loop
 loop-again c =
-    puts-turn c.before.before.before.before.before.before.loop.invariant (search rules) _ _ (search rules) c.before.before.put_byte.ensures
+    puts_turn c.before.before.before.before.before.before.loop.invariant (search rules) _ _ (search rules) c.before.before.put_byte.ensures
 
 same_length : tie.Need-same-length invariant-loop decreases-loop
 same_length c = search rules
 
 returns : tie.Need-returns invariant-loop decreases-loop
-returns c = puts-end c.before.loop.invariant (search rules)
+returns c = puts_end c.before.loop.invariant (search rules)
 
 pub put-all-spec : {M : Type 1} → statement M
 put-all-spec =

@@ -1,7 +1,7 @@
 -- `put_number` meets its contract: what `io::decimal` spells is the spelling. Assumes nothing.
 use mathlib.Core.Path.{ap, ◌∙◌}
 use borrow.Author.Rules.{rules}
-use Rattle.text_out.specs.Out.{putAllOf}
+use Rattle.text_out.specs.Out.{put_all_of}
 use Rattle.text_out.proofs.Spelling.{spells}
 use Rattle.text_out.proofs.put_number.Statement.{statement}
 use Rattle.text_out.proofs.put_number.Tie as tie
@@ -24,7 +24,7 @@ same_length c = search rules
 returns : tie.Need-returns
 returns c =
     let d = c.before.before.before.before.before.decimal.ensures in
-    c.before.before.put_all_lem.ensures ∙ ap (putAllOf _ _) (d.1.1 ∙ spells 19 _ _ (search rules) d.1.0)
+    c.before.before.put_all_lem.ensures ∙ ap (put_all_of _ _) (d.1.1 ∙ spells 19 _ _ (search rules) d.1.0)
 
 pub put-number-spec : {M : Type 1} → statement M
 put-number-spec =

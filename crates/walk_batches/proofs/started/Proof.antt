@@ -1,5 +1,5 @@
 -- `started` meets its contract. Assumes nothing.
-use Rattle.store.specs.Layout.{topMost}
+use Rattle.store.specs.Layout.{top_most}
 use mathlib.Core.Path.{ap}
 use borrow.Author.Rules.{rules}
 use Rattle.walk.specs.Calls.{start_in}
@@ -15,7 +15,7 @@ start-requires c κs = search rules
 returns : tie.Need-returns
 returns c =
     let s = c.before.before.before.args.store.now in
-    ap (λ (x : Step). x.cursor) (the_step (start_in s (start_at topMost 0)) c.before.start.ensures)
+    ap (λ (x : Step). x.cursor) (the_step (start_in s (start_at top_most 0)) c.before.start.ensures)
 
 pub started-spec : {M : Type 1} → statement M
 started-spec = tie.close (tie.spec start-requires returns)

@@ -1,15 +1,15 @@
 -- `fill` meets its contract. Assumes nothing.
 use Prim.Native.Nat.{ℕ}
-use Rattle.store.proofs.TopLayer.{top-is}
+use Rattle.store.proofs.TopLayer.{top_is}
 use mathlib.Core.Bool.{true}
 use mathlib.Core.Path.{◌≡◌, subst}
 use borrow.Author.Rules.{rules}
 use lib.ListN.{length}
-use Rattle.store.specs.Layout.{StoreOf, topMost, top}
+use Rattle.store.specs.Layout.{StoreOf, top_most, top}
 use Rattle.walk.specs.Calls.{fits, Fine}
-use Rattle.walk.proofs.Answers.{was-taken}
+use Rattle.walk.proofs.Answers.{was_taken}
 use Rattle.walk.proofs.Cursors.{fine_of}
-use Rattle.walk_fill.proofs.Fills.{fill-refused, fill-lent, fill-answered}
+use Rattle.walk_fill.proofs.Fills.{fill_refused, fill_lent, fill_answered}
 use Rattle.walk_fill.proofs.fill.Statement.{statement}
 use Rattle.walk_fill.proofs.fill.Tie as tie
 
@@ -27,7 +27,7 @@ returns c =
     let r = c.before.before in
     let k = r.before in
     let a = k.before.before.before.args in
-    fill-refused a.store.now a.c a.budget a.out.now k.capacity.ensures r.refusal.ensures c.before.if1.true c.made.ensures
+    fill_refused a.store.now a.c a.budget a.out.now k.capacity.ensures r.refusal.ensures c.before.if1.true c.made.ensures
 
 -- past the refusals the slice is a store and the prefixes fit
 taken_here : (c : tie.Else1)
@@ -36,7 +36,7 @@ taken_here c =
     let r = c.before in
     let k = r.before in
     let a = k.before.before.before.args in
-    was-taken a.store.now a.c k.capacity.ensures r.refusal.ensures c.if1.false
+    was_taken a.store.now a.c k.capacity.ensures r.refusal.ensures c.if1.false
 
 layer2-as-slice-requires : tie.Need-layer2-as-slice-requires
 layer2-as-slice-requires c κs = search rules
@@ -53,7 +53,7 @@ fill-in-requires c κs =
     let k = e.before.before in
     let c₀ = k.before.before.before.args.c in
     let n = k.capacity.result in
-    subst (λ (t : ℕ). Fine t c₀.prefix) (top-is n) (fine_of (top n) c₀.prefix (taken_here e).1)
+    subst (λ (t : ℕ). Fine t c₀.prefix) (top_is n) (fine_of (top n) c₀.prefix (taken_here e).1)
 
 same_length : tie.Need-same-length
 same_length c = search rules
@@ -66,8 +66,8 @@ returns-2 c =
     let l2 = l1.before in
     let h = taken_here l2.before in
     let a = l2.before.before.before.before.before.before.args in
-    fill-answered a.out.now
-    (fill-lent h.0 a.c l2.layer2-as-slice.ensures.words l1.layer1-as-slice.ensures.words l0.layer0-as-slice.ensures.words h.1 a.budget (length a.out.now))
+    fill_answered a.out.now
+    (fill_lent h.0 a.c l2.layer2-as-slice.ensures.words l1.layer1-as-slice.ensures.words l0.layer0-as-slice.ensures.words h.1 a.budget (length a.out.now))
     f.fill-in.ensures
 
 pub fill_spec : {M : Type 1} → statement M

@@ -1,9 +1,9 @@
 -- `place` meets its contract. Assumes nothing.
-use Rattle.store.specs.Layout.{topMost}
+use Rattle.store.specs.Layout.{top_most}
 use Prim.Native.Nat.{◌%◌, suc}
 use native.Mathlib.Omega.{arith}
 use borrow.Author.Rules.{rules}
-use Rattle.walk_masks.proofs.Masks.{prefix-below, prefix-top}
+use Rattle.walk_masks.proofs.Masks.{prefix_below, prefix_top}
 use Rattle.walk_masks.proofs.place.Statement.{statement}
 use Rattle.walk_masks.proofs.place.Tie as tie
 
@@ -20,7 +20,7 @@ returns : tie.Need-returns
 returns c =
     let a = c.before.before.args in
     let e = c.behind.ensures in
-    (omega (arith, e.0, prefix-top topMost a.t2 (a.k % suc topMost) (omega (arith, c.before.if1.true))), e.1)
+    (omega (arith, e.0, prefix_top top_most a.t2 (a.k % suc top_most) (omega (arith, c.before.if1.true))), e.1)
 
 mul-behind-2 : tie.Need-overflow-mul-behind-2
 mul-behind-2 c = search rules
@@ -41,7 +41,7 @@ returns-2 : tie.Need-returns-2
 returns-2 c =
     let a = c.before.before.args in
     let e = c.behind2.ensures in
-    (omega (arith, e.0, prefix-below topMost a.t2 (a.k % suc topMost) (omega (arith, c.before.if1.false))), e.1)
+    (omega (arith, e.0, prefix_below top_most a.t2 (a.k % suc top_most) (omega (arith, c.before.if1.false))), e.1)
 
 pub place-spec : {M : Type 1} → statement M
 place-spec =

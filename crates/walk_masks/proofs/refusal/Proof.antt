@@ -1,14 +1,14 @@
 -- `refusal` meets its contract. Assumes nothing.
-use Rattle.store.proofs.TopLayer.{top-is}
+use Rattle.store.proofs.TopLayer.{top_is}
 use mathlib.Core.Path.{sym, ◌∙◌}
 use borrow.Author.Rules.{rules}
 use borrow.Author.Tests.{eq-eqb, ne_eqb}
-use Rattle.walk_masks.specs.Prefixes.{prefixesFit, refusalOf}
+use Rattle.walk_masks.specs.Prefixes.{prefixes_fit, refusal_of}
 use Rattle.walk_masks.proofs.refusal.Statement.{statement}
 use Rattle.walk_masks.proofs.refusal.Tie as tie
 
 returns : tie.Need-returns
-unfolding refusalOf
+unfolding refusal_of
 returns c = sym (rw (eq-eqb c.before.args.n 0 c.if1.true))
 
 array-read-are-prefixes : tie.Need-array-read-are-prefixes
@@ -33,16 +33,16 @@ are-prefixes-requires : tie.Need-are-prefixes-requires
 are-prefixes-requires c κs = search rules
 
 returns-2 : tie.Need-returns-2
-unfolding refusalOf prefixesFit
+unfolding refusal_of prefixes_fit
 returns-2 c =
     let e = c.before.before in
-    sym (rw (ne_eqb e.before.args.n 0 e.if1.false, top-is e.before.args.n, sym c.before.are-prefixes.ensures ∙ c.if2.true))
+    sym (rw (ne_eqb e.before.args.n 0 e.if1.false, top_is e.before.args.n, sym c.before.are-prefixes.ensures ∙ c.if2.true))
 
 returns-3 : tie.Need-returns-3
-unfolding refusalOf prefixesFit
+unfolding refusal_of prefixes_fit
 returns-3 c =
     let e = c.before.before in
-    sym (rw (ne_eqb e.before.args.n 0 e.if1.false, top-is e.before.args.n, sym c.before.are-prefixes.ensures ∙ c.if2.false))
+    sym (rw (ne_eqb e.before.args.n 0 e.if1.false, top_is e.before.args.n, sym c.before.are-prefixes.ensures ∙ c.if2.false))
 
 pub refusal-spec : {M : Type 1} → statement M
 refusal-spec =

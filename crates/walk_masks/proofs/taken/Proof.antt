@@ -1,5 +1,5 @@
 -- `taken` meets its contract. Assumes nothing.
-use Rattle.store.specs.Layout.{topMost}
+use Rattle.store.specs.Layout.{top_most}
 use mathlib.Core.List.{List}
 use mathlib.Core.Path.{◌≡◌, ap, ◌∙◌}
 use Prim.Native.Nat.{ℕ, suc, ◌+◌, ◌%◌}
@@ -25,8 +25,8 @@ array-write-r c = search rules
 returns : tie.Need-returns
 returns c =
     let a = c.before.args in
-    let j = a.j % topMost in
-    let e : (j + 1) % suc topMost ≡ suc j = omega arith in
+    let j = a.j % top_most in
+    let e : (j + 1) % suc top_most ≡ suc j = omega arith in
     ap (λ (x : List ℕ). set x j a.word) (c.without.ensures ∙ ap (bare a.masks) e)
 
 pub taken-spec : {M : Type 1} → statement M

@@ -1,5 +1,5 @@
 -- `without` meets its contract. Assumes nothing.
-use Rattle.store.specs.Layout.{topMost}
+use Rattle.store.specs.Layout.{top_most}
 use mathlib.Core.Path.{ap}
 use Prim.Native.Nat.{◌%◌, suc}
 use borrow.Author.Rules.{rules}
@@ -23,7 +23,7 @@ array-write-r : tie.Need-array-write-r
 array-write-r c = search rules
 
 returns : tie.Need-returns
-returns c = let a = c.before.args in ap (set a.t1 (a.k % suc topMost)) c.drop-lowest.ensures
+returns c = let a = c.before.args in ap (set a.t1 (a.k % suc top_most)) c.drop-lowest.ensures
 
 pub without-spec : {M : Type 1} → statement M
 without-spec =

@@ -44,9 +44,9 @@ use types.Kit.{‵, raw, ◌⊛◌, ⋆, some, later, ◌$◌, ◌∵◌, !, qed
 use types.Run.{look, init, forget, stop, from, load, addr, of_opd, and_then, no_more, assigns, land, returns, enter, alloc1, alloc0, params1, pass1, pass0, free1, free0}
 use types.SemTy.{Body}
 use types.Tokens.{lft_new}
-use Rattle.walk.specs.Calls.{nextIn}
+use Rattle.walk.specs.Calls.{next_in}
 use Rattle.walk.specs.declared.Cursor.{Cursor}
-use Rattle.walk_batches.specs.Calls.{startedOf}
+use Rattle.walk_batches.specs.Calls.{started_of}
 use Rattle.walk_reader.specs.Readers.{told}
 use Rattle.walk_reader.specs.declared.BitIter.{BitIter}
 use Rattle.walk_reader.specs.declared.Told.{Told}
@@ -72,19 +72,19 @@ stayed = (stay_none_slice (0 ∷ []) tt (plain (λ _. u64)) yes, (stay_none (λ 
 
 -- what `iter` and `next` say
 abbrev Made : Bor (List ℕ) → BitIter → Type 0
-Made s w = (w.store ≡ s) × (w.cursor ≡ startedOf s.now)
+Made s w = (w.store ≡ s) × (w.cursor ≡ started_of s.now)
 
 abbrev Stepped : ℕ → BitIter → BitIter → Told → Type 0
-Stepped n w w' a = (w'.store ≡ w.store) × (w'.cursor ≡ (nextIn w.store.now w.cursor n).cursor) ×
-    (a ≡ told (nextIn w.store.now w.cursor n))
+Stepped n w w' a = (w'.store ≡ w.store) × (w'.cursor ≡ (next_in w.store.now w.cursor n).cursor) ×
+    (a ≡ told (next_in w.store.now w.cursor n))
 
 -- what `first` says
 abbrev first_of : List ℕ → ℕ → Told
-first_of s n = told (nextIn s (startedOf s) n)
+first_of s n = told (next_in s (started_of s) n)
 
 concludes : (s : Bor (List ℕ)) (n : ℕ) (w w' : BitIter) (a : Told) → Made s w → Stepped n w w' a → a ≡ first_of s.now n
 concludes s n w w' a e e₁ =
-    e₁.2 ∙ (ap (λ (x : Bor (List ℕ)). told (nextIn x.now w.cursor n)) e.0 ∙ ap (λ (c : Cursor). told (nextIn s.now c n)) e.1)
+    e₁.2 ∙ (ap (λ (x : Bor (List ℕ)). told (next_in x.now w.cursor n)) e.0 ∙ ap (λ (c : Cursor). told (next_in s.now c n)) e.1)
 
 module _ {M : Type 1} {𝓤 : Ura M} (𝓛 : Logic 𝓤) (at_mem : Memory → SProp 𝓤) (run : Routine → Fun 𝓤) where
   -- the contracts that the proof cites
@@ -288,11 +288,11 @@ module _ {M : Type 1} {𝓤 : Ura M} (𝓛 : Logic 𝓤) (at_mem : Memory → SP
       (λ κs qs bounds a g are. via 𝓤 _ (fst∗ 𝓤 _ (emp 𝓤))
       (walk 𝓛 at_mem run κs.0 qs.0 a.0 a.1.0 are.1.0.1 C Λ fm known-iter known_next are.0))
 
-first-meets : {M : Type 1} {𝓤 : Ura M} (𝓛 : Logic 𝓤) (at_mem : Memory → SProp 𝓤) (run : Routine → Fun 𝓤)
+first_meets : {M : Type 1} {𝓤 : Ura M} (𝓛 : Logic 𝓤) (at_mem : Memory → SProp 𝓤) (run : Routine → Fun 𝓤)
     (𝓣 : Tables 𝓤 𝓛.H)
     → Triple 𝓤 (𝓣.C #walk-reader·iter) (Iter 𝓛 at_mem run) → Triple 𝓤 (𝓣.C #walk-reader·next) (Next 𝓛 at_mem run)
     → Meets 𝓛 first.signature (WpFn 𝓤 𝓛.H 𝓣.C 𝓣.Λ code.function) (first.spec 𝓛 at_mem run)
-first-meets {𝓤 = 𝓤} 𝓛 at_mem run 𝓣 known-iter known_next = walk_Meets 𝓛 first.ended stayed
+first_meets {𝓤 = 𝓤} 𝓛 at_mem run 𝓣 known-iter known_next = walk_Meets 𝓛 first.ended stayed
     (Goes-none_slice 𝓛 1 (0 ∷ []) tt (plain (λ _. u64)) yes, (Goes-none 𝓛 1 (λ _. u64) yes (λ κs x f. refl), tt))
     (first.clauses 𝓛 at_mem run) (WpFn 𝓤 𝓛.H 𝓣.C 𝓣.Λ code.function) (WpFn-mono 𝓤 𝓛.H 𝓛.laws 𝓣 code.function)
     (first_walks 𝓛 at_mem run 𝓣.C 𝓣.Λ (fm_of 𝓤 𝓛.H 𝓛.laws 𝓣) known-iter known_next)
@@ -302,6 +302,6 @@ unfolding code.routine tables_of
 first_spec 𝓤 𝓛 𝓜 𝓡 =
     entered 𝓤 𝓛.H (triple_of 𝓛 first.signature (first.spec 𝓛 𝓜.mem 𝓡.run))
     (tables 𝓤 𝓛.H 𝓜 𝓡 code.env).C (tables 𝓤 𝓛.H 𝓜 𝓡 code.env).Λ #walk-reader·first code.function (code.unfolded 𝓤 𝓛.H 𝓜 𝓡)
-    (first-meets 𝓛 𝓜.mem 𝓡.run (tables_of 𝓤 𝓛.H 𝓜 (tables 𝓤 𝓛.H 𝓜 𝓡 code.env))
+    (first_meets 𝓛 𝓜.mem 𝓡.run (tables_of 𝓤 𝓛.H 𝓜 (tables 𝓤 𝓛.H 𝓜 𝓡 code.env))
     (cited 𝓤 𝓛.H (Iter 𝓛 𝓜.mem 𝓡.run) 𝓜 𝓡 code.env #walk-reader·iter iter-def.routine code.calls-walk-reader::iter (iter-thm.met 𝓤 𝓛 𝓜 𝓡))
     (cited 𝓤 𝓛.H (Next 𝓛 𝓜.mem 𝓡.run) 𝓜 𝓡 code.env #walk-reader·next next-def.routine code.calls-walk-reader::next (next-thm.met 𝓤 𝓛 𝓜 𝓡)))

@@ -41,7 +41,7 @@ use types.Run.{look, init, forget, stop, from, load, and_then, no_more, assigns,
 use Rattle.walk.specs.declared.Cursor.{Cursor}
 use Rattle.walk.specs.contracts.Cursor as Cu
 use Rattle.walk.proofs.Cursor.TheLaws as Cu'
-use Rattle.walk_batches.specs.Calls.{startedOf}
+use Rattle.walk_batches.specs.Calls.{started_of}
 use Rattle.walk_batches.specs.contracts.started as started
 use Rattle.walk_batches.proofs.started.Met as started-thm
 use Rattle.walk_batches.proofs.started.Symbol.{name as #walk-batches·started}
@@ -117,10 +117,10 @@ module _ {M : Type 1} {𝓤 : Ura M} (𝓛 : Logic 𝓤) (mem : Memory → SProp
       move ! (0 ∷ 2 ∷ []) $ fjoin ! $ move ! (2 ∷ 0 ∷ []) $ use2 𝓛 (raw ((Started 𝓛 mem run).pre to)) asked $ frame ! $ done !
 
   said : (r : Cursor)
-      → ent 𝓤 (ensured 𝓛 started.ended (started.clauses 𝓛 mem run) (κ, tt) (s, tt) tt r) (fact 𝓤 (r ≡ startedOf s.now))
-  said r = ex_e 𝓤 _ (λ ws. snd∗ 𝓤 (sem 𝓛 (lasts started.ended (κ, tt) (s, tt) ws)) (fact 𝓤 (r ≡ startedOf s.now)))
+      → ent 𝓤 (ensured 𝓛 started.ended (started.clauses 𝓛 mem run) (κ, tt) (s, tt) tt r) (fact 𝓤 (r ≡ started_of s.now))
+  said r = ex_e 𝓤 _ (λ ws. snd∗ 𝓤 (sem 𝓛 (lasts started.ended (κ, tt) (s, tt) ws)) (fact 𝓤 (r ≡ started_of s.now)))
 
-  exits : (c : Cursor) → Is Cu.the_row c (vc c ∷ []) → c ≡ startedOf s.now
+  exits : (c : Cursor) → Is Cu.the_row c (vc c ∷ []) → c ≡ started_of s.now
       → ent 𝓤 (⋆ 𝓛 ((‵ (flft κ q) ⊛ ‵ ftrue) ∷ ‵ Own ∷ [])) (Post (mach c))
   exits c is e =
       qed 𝓛 ((‵ (flft κ q) ⊛ ‵ ftrue) ∷ ‵ Own ∷ []) ∵
@@ -145,8 +145,8 @@ module _ {M : Type 1} {𝓤 : Ura M} (𝓛 : Logic 𝓤) (mem : Memory → SProp
         use1 𝓛 (later (some (λ (r : Cursor). ((‵ (flft κ q) ⊛ ‵ ftrue) ⊛ ‵ ((Cu.the_row).own_val r (u ∷ []))) ⊛ raw
         (ensured 𝓛 started.ended (started.clauses 𝓛 mem run) (κ, tt) (s, tt) tt r)))) (id⊢ 𝓤 _) $
         await ! tt $ pick ! (λ r.
-        split ! $ move ! (1 ∷ []) $ use1 𝓛 (raw (fact 𝓤 (r ≡ startedOf s.now))) (said r) $
-        heard ! (r ≡ startedOf s.now) (λ e. split ! $ move ! (1 ∷ []) $
+        split ! $ move ! (1 ∷ []) $ use1 𝓛 (raw (fact 𝓤 (r ≡ started_of s.now))) (said r) $
+        heard ! (r ≡ started_of s.now) (λ e. split ! $ move ! (1 ∷ []) $
         peeks ! Cu.the_row (Is Cu.the_row) (shows 𝓛 Cu.the_row) r (u ∷ []) (λ is₀.
         -- [the result's; the token; what s owns; _2; …; _1; …; room for _0; …]
         land ! (from ! (stop !)) (init ! 3 refl ((LL.lawful Cu.the_type Cu'.the_laws 𝓛).typed r _ is₀).0) $

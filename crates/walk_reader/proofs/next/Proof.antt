@@ -45,7 +45,7 @@ use types.Part.{agg, whole, sub, look_in, store_in}
 use types.Run.{look, init, forget, stop, hop, fld, from, load, of_opd, and_then, no_more, assigns, land, returns, enter, alloc1, alloc0, params1, pass1, pass0, free1, free0}
 use types.SemTy.{Body}
 use Rattle.util.specs.Outcome.{Settled}
-use Rattle.walk.specs.Calls.{stepPaper, next_of, nextIn}
+use Rattle.walk.specs.Calls.{step_paper, next_of, next_in}
 use Rattle.walk.specs.declared.Cursor.{Cursor}
 use Rattle.walk.specs.declared.Step.{Step}
 use Rattle.walk.proofs.Answers.{the_step}
@@ -128,11 +128,11 @@ module _ {M : Type 1} {𝓤 : Ura M} (𝓛 : Logic 𝓤) (at_mem : Memory → SP
   at = (vptr b o ∷ [], (vint w64 n ∷ [], tt))
 
   abbrev found : Step
-  found = nextIn h.store.now h.cursor n
+  found = next_in h.store.now h.cursor n
 
   -- what the covered step promises of its result
   abbrev Promised : Step → Type 0
-  Promised r = Settled stepPaper (next_of h.store.now h.cursor n) r tt
+  Promised r = Settled step_paper (next_of h.store.now h.cursor n) r tt
 
   abbrev v : Val
   v = slice_val h.store.ref_ptr (length h.store.now)

@@ -1,12 +1,12 @@
 -- `Cursor::next` meets its contract. Assumes nothing.
 use Prim.Native.Nat.{ℕ}
-use Rattle.store.proofs.TopLayer.{top-is}
+use Rattle.store.proofs.TopLayer.{top_is}
 use mathlib.Core.Bool.{true}
 use mathlib.Core.Path.{◌≡◌, ◌∙◌, subst}
 use borrow.Author.Rules.{rules}
-use Rattle.store.specs.Layout.{StoreOf, topMost, top}
+use Rattle.store.specs.Layout.{StoreOf, top_most, top}
 use Rattle.walk.specs.Calls.{fits, Fine}
-use Rattle.walk.proofs.Answers.{answered, was-taken, next-refused, next-lent}
+use Rattle.walk.proofs.Answers.{answered, was_taken, next-refused, next_lent}
 use Rattle.walk.proofs.Cursor.next.Statement.{statement}
 use Rattle.walk.proofs.Cursor.next.Tie as tie
 use Rattle.walk.proofs.Cursors.{fine_of}
@@ -33,7 +33,7 @@ taken_here c =
     let r = c.before in
     let k = r.before in
     let a = k.before.before.args in
-    was-taken a.store.now a.self k.capacity.ensures r.refusal.ensures c.if1.false
+    was_taken a.store.now a.self k.capacity.ensures r.refusal.ensures c.if1.false
 
 layer2-as-slice-requires : tie.Need-layer2-as-slice-requires
 layer2-as-slice-requires c κs = search rules
@@ -50,7 +50,7 @@ run-requires c κs =
     let k = e.before.before in
     let c₀ = k.before.before.args.self in
     let n = k.capacity.result in
-    subst (λ (t : ℕ). Fine t c₀.prefix) (top-is n) (fine_of (top n) c₀.prefix (taken_here e).1)
+    subst (λ (t : ℕ). Fine t c₀.prefix) (top_is n) (fine_of (top n) c₀.prefix (taken_here e).1)
 
 returns-2 : tie.Need-returns-2
 returns-2 c =
@@ -59,7 +59,7 @@ returns-2 c =
     let l2 = l1.before in
     let h = taken_here l2.before in
     let a = l2.before.before.before.before.before.args in
-    answered (c.run.ensures ∙ next-lent h.0 a.self l2.layer2-as-slice.ensures.words l1.layer1-as-slice.ensures.words l0.layer0-as-slice.ensures.words h.1 a.budget)
+    answered (c.run.ensures ∙ next_lent h.0 a.self l2.layer2-as-slice.ensures.words l1.layer1-as-slice.ensures.words l0.layer0-as-slice.ensures.words h.1 a.budget)
 
 pub next-spec : {M : Type 1} → statement M
 next-spec =

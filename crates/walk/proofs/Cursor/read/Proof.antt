@@ -4,7 +4,7 @@ use borrow.Author.Rules.{rules}
 use lib.ListN.{get_or}
 use Rattle.walk.proofs.Cursor.read.Statement.{statement}
 use Rattle.walk.proofs.Cursor.read.Tie as tie
-use Rattle.walk.proofs.Cursors.{lowers-by}
+use Rattle.walk.proofs.Cursors.{lowers_by}
 
 add-place : tie.Need-overflow-add-place
 add-place c = search rules
@@ -23,7 +23,7 @@ returns c =
     let p = c.before.before in
     let s = p.before.before in
     let l = s.args.layer.now in
-    lowers-by (λ (k i : ℕ). get_or l i 0) s.requires.0 s.requires.1 p.place.ensures c.before.get.ensures c.handle-level.ensures
+    lowers_by (λ (k i : ℕ). get_or l i 0) s.requires.0 s.requires.1 p.place.ensures c.before.get.ensures c.handle-level.ensures
 
 pub read_spec : {M : Type 1} → statement M
 read_spec =

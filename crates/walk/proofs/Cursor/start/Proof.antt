@@ -2,10 +2,10 @@
 use mathlib.Core.Path.{ap, ◌∙◌}
 use borrow.Author.Rules.{rules}
 use Rattle.store.specs.Layout.{top}
-use Rattle.store.proofs.Ends.{some-store, no_store}
+use Rattle.store.proofs.Ends.{some_store, no_store}
 use Rattle.walk.specs.declared.Cursor.{Cursor}
 use Rattle.walk.specs.declared.Next.TheVariants.{Paused}
-use Rattle.walk.proofs.Answers.{answered, start-2, start-runs}
+use Rattle.walk.proofs.Answers.{answered, start_2, start_runs}
 use Rattle.walk.proofs.Cursor.start.Statement.{statement}
 use Rattle.walk.proofs.Cursor.start.Tie as tie
 
@@ -19,7 +19,7 @@ returns : tie.Need-returns
 returns c =
     let k = c.before.before in
     let a = k.before.before.args in
-    answered (c.step.ensures ∙ start-2 a.store.now a.self (no_store a.store.now k.capacity.ensures c.before.if1.true))
+    answered (c.step.ensures ∙ start_2 a.store.now a.self (no_store a.store.now k.capacity.ensures c.before.if1.true))
 
 top-word-requires : tie.Need-top-word-requires
 top-word-requires c κs = search rules
@@ -36,7 +36,7 @@ returns-2 c =
     let e = g.before in
     let a = e.before.before.before.args in
     answered (c.step2.ensures ∙ ap (λ (x : Cursor). record { cursor = x; reads = 1; answer = Paused }) c.before.above.ensures
-    ∙ start-runs (some-store a.store.now e.before.capacity.ensures e.if1.false) a.self g.top-word.result g.top-word.ensures)
+    ∙ start_runs (some_store a.store.now e.before.capacity.ensures e.if1.false) a.self g.top-word.result g.top-word.ensures)
 
 pub start_spec : {M : Type 1} → statement M
 start_spec =
