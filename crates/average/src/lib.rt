@@ -1,11 +1,12 @@
 // The bit that splits a word's set bits: `average_ones` of the Rust's util.rs on 64-bit words.
+#![tactic(auto)]
 ghost use Rattle.std.specs.Prelude.{ℕ};
 ghost use Rattle.util.specs.Outcome.{Settled};
 ghost use Rattle.average.specs.Average.{paper, average_of};
 ghost use Rattle.average.specs.Search.{Tallied, HalfStep, InRange};
 
 // The bit that splits a word's set bits, or none.
-#[derive(Drop)]
+#[derive(Clone, Copy)]
 pub enum Half {
     At(u64),
     Nothing,
@@ -25,7 +26,7 @@ const PAR4: u64 = !0 / 0x1_0001;
 const PAR5: u64 = !0 / 0x1_0000_0001;
 
 // The counts of set bits in all fields of 2, 4, 8, 16 and 32 bits.
-#[derive(Drop)]
+#[derive(Clone, Copy)]
 struct Tallies {
     a: u64,
     b: u64,
@@ -48,7 +49,7 @@ fn count_fields(n: u64) -> Tallies
 
 // A binary search: of the set bits below `result` the one with `target` of them at or above it is looked for, and `cur` of them are
 // in the upper half of the field that is left.
-#[derive(Drop)]
+#[derive(Clone, Copy)]
 struct Search {
     result: u64,
     target: u64,

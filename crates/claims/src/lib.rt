@@ -1,1 +1,2 @@
 // No code: the theorems that span the crates stand in specs/ and proofs/.
+#![tactic(auto)]

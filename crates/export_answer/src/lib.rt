@@ -1,4 +1,5 @@
 // What a caller in C or Rust is answered: structs of two numbers, made of the answers of the calls.
+#![tactic(auto)]
 ghost use Rattle.std.specs.Prelude.{cond, [], ◌∷◌, ◌≡◌};
 ghost use Rattle.store.specs.Answer.{asked_paper, did_paper, found_paper, read_paper};
 ghost use Rattle.export_answer.specs.Abi.{answer_of};
@@ -7,7 +8,7 @@ use store::{Asked, Did, Found, Read};
 
 // The refusal's number, 0 for none, and the value, 0 where there is none.
 #[repr(C)]
-#[derive(Drop)]
+#[derive(Clone, Copy)]
 pub struct Answer {
     pub refusal: u64,
     pub value: u64,
@@ -15,7 +16,7 @@ pub struct Answer {
 
 // A part of a store: its first word and how many. No layer is empty, so a length of 0 stands for refusal 2.
 #[repr(C)]
-#[derive(Drop)]
+#[derive(Clone, Copy)]
 pub struct Part {
     pub start: u64,
     pub length: u64,
@@ -23,7 +24,7 @@ pub struct Part {
 
 // A bit's number, if there is one.
 #[repr(C)]
-#[derive(Drop)]
+#[derive(Clone, Copy)]
 pub struct Bit {
     pub some: u64,
     pub bit: u64,

@@ -1,4 +1,5 @@
 // What a call of the walk says to a caller in C, and what it leaves in the ten words of its cursor.
+#![tactic(auto)]
 ghost use Rattle.std.specs.Prelude.{◌≡◌};
 ghost use Rattle.export_step.specs.Answers.{step_of, stop_of, left_of, moved_of, cursor_after};
 
@@ -7,7 +8,7 @@ use walk_fill::Stop;
 
 // What a call of the walk says: 0 and the refusal's number; 1 and the member; 2 paused; 3 the end; 4 full. A fill says how many members.
 #[repr(C)]
-#[derive(Drop)]
+#[derive(Clone, Copy)]
 pub struct StepAnswer {
     pub which: u64,
     pub value: u64,

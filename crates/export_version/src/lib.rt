@@ -1,4 +1,5 @@
 // The version, for C and Rust.
+#![tactic(auto)]
 ghost use Rattle.std.specs.Prelude.{◌≡◌};
 ghost use Rattle.export_version.specs.Version.{version};
 

@@ -1,4 +1,5 @@
 // The codes of a formula over at most four stores: which lists of codes are one, and what is refused.
+#![tactic(auto)]
 ghost use Rattle.std.specs.Prelude.{true, ◌≢◌, ◌≡◌, ◌≤◌, length};
 ghost use Rattle.store.specs.Layout.{max_cap, store_len};
 ghost use Rattle.formula_codes.specs.Check.{beside_of, sooner, stores_of, check_of};

@@ -1,4 +1,5 @@
 // The descent of a walk over a formula: words are read until none is wanted or the budget is spent. A formula word counts one read.
+#![tactic(auto)]
 ghost use Rattle.std.specs.Prelude.{◌≡◌, ◌+◌, ◌-◌, ◌<◌, get_or};
 ghost use Rattle.store.specs.Layout.{top_most};
 ghost use Rattle.walk.specs.Steps.{Lowers, Sinks};
@@ -11,14 +12,14 @@ ghost use Rattle.formula_sink.specs.Steps.{Spotted, Wanted};
 use walk::{Cursor, Sunk};
 
 // The word that has to be read: its layer, its index, and where it stands in a store.
-#[derive(Drop)]
+#[derive(Clone, Copy)]
 struct Spot {
     layer: usize,
     index: usize,
     at: usize,
 }
 
-#[derive(Drop)]
+#[derive(Clone, Copy)]
 enum Want {
     Word(Spot),
     Nothing,

@@ -1,5 +1,6 @@
 // The layer word of a formula, its codes one after another on a stack: the Rust's `BitSetAnd`, `BitSetOr`, `BitSetXor`, `BitSetNot` and
 // `BitSetAll` of ops.rs.
+#![tactic(auto)]
 ghost use Rattle.std.specs.Prelude.{true, ◌≡◌, suc, ◌%◌, ◌≤◌, ◌<◌, length, get_or};
 ghost use Rattle.store.specs.Layout.{top_most};
 ghost use Rattle.formula_codes.specs.Codes.{code_kind};
@@ -41,7 +42,7 @@ fn moves(code: u8) -> usize
 }
 
 // The values that wait after a turn: the last, and where it will stand; and the code that comes next.
-#[derive(Drop)]
+#[derive(Clone, Copy)]
 struct Turn {
     last: u64,
     place: usize,

@@ -1,6 +1,7 @@
 // The listing program: lines of standard input add, remove and ask for ids, and each line's answer is printed. Input is read in pieces of
 // 65,536 bytes, and a line that a piece's end cuts goes on in the next one; of a line its first 13 bytes are kept, since no line that
 // means something is longer than 12. What is printed is joined in a buffer of 65,536 bytes. The store is a store and sound at every line.
+#![tactic(auto)]
 ghost use Rattle.std.specs.Prelude.{◌+◌, ◌≤◌, ◌<◌, ◌^◌, length};
 ghost use Rattle.io.specs.Counts.{IsPrefixLen};
 ghost use Rattle.listing_replies.specs.Replies.{Good};
@@ -8,7 +9,7 @@ ghost use Rattle.listing_replies.specs.Replies.{Good};
 use libc::STDIN_FILENO;
 
 // What is carried from piece to piece: how much of the output buffer is filled, how long the line is so far, how many lines ended.
-#[derive(Drop)]
+#[derive(Clone, Copy)]
 struct State {
     at: usize,
     len: usize,

@@ -1,10 +1,11 @@
 // What a line of the listing program means. Which lines are commands, both ways, and that a number that was put is read back, are theorems.
+#![tactic(auto)]
 ghost use Rattle.std.specs.Prelude.{◌≡◌, take, drop, get_or};
 ghost use Rattle.listing_line.specs.Line.{id_of, with_id, command_of};
 
 use text_in::Decimal;
 
-#[derive(Drop)]
+#[derive(Clone, Copy)]
 pub enum Command {
     Add(u32),
     Remove(u32),
@@ -14,7 +15,7 @@ pub enum Command {
 }
 
 // What stands where an id is to stand.
-#[derive(Drop)]
+#[derive(Clone, Copy)]
 pub enum Id {
     At(u32),
     Bad,

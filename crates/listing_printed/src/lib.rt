@@ -1,4 +1,5 @@
 // What the listing program prints for a letter, an id and an answer.
+#![tactic(auto)]
 ghost use Rattle.std.specs.Prelude.{◌∷◌, ◌≡◌};
 ghost use Rattle.store.specs.declared.Asked.TheVariants.{Is, Refused};
 ghost use Rattle.text_out.specs.Out.{holding, put_all_of, decimal_of};
@@ -7,7 +8,7 @@ ghost use Rattle.listing_printed.specs.Reply.{span_of, end_text, reply_of};
 use store::Asked;
 
 // A part of the words.
-#[derive(Drop)]
+#[derive(Clone, Copy)]
 struct Span {
     from: usize,
     to: usize,

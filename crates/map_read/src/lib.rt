@@ -1,4 +1,5 @@
 // The chunk map's reader: everything is checked before anything is written. Document 01, "Chunk map".
+#![tactic(auto)]
 ghost use Rattle.std.specs.Prelude.{◌≡◌, ◌+◌, ◌*◌, ◌≤◌, length};
 ghost use Rattle.util.specs.Outcome.{Settled};
 ghost use Rattle.store.specs.Answer.{did_paper};
@@ -13,7 +14,7 @@ ghost use Rattle.map_read.specs.Steps.{Table, table_of, Replaces};
 use store::Did;
 
 // The capacity of the stores that a map is for, or the refusal's number.
-#[derive(Drop)]
+#[derive(Clone, Copy)]
 pub enum MapFor {
     Capacity(usize),
     Refused(u32),

@@ -1,4 +1,5 @@
 // The chunk map's writer: layer 0 as bytes. Document 01, "Chunk map".
+#![tactic(auto)]
 ghost use Rattle.std.specs.Prelude.{[], ◌∷◌, ◌≡◌, ◌+◌, ◌*◌, ◌≤◌, length};
 ghost use Rattle.std.proofs.lemmas.List.Edits.{sets};
 ghost use Rattle.util.specs.Outcome.{Settled};
@@ -10,7 +11,7 @@ ghost use Rattle.map_write.specs.Map.{head_of, map_of, map_len};
 ghost use Rattle.map_write.specs.Steps.{words_from, draft_at, draft_to, Room, Rooms, EntryFits, Entered};
 
 // The length of the map, or the refusal's number.
-#[derive(Drop)]
+#[derive(Clone, Copy)]
 pub enum Wrote {
     Length(usize),
     Refused(u32),
@@ -32,7 +33,7 @@ fn put_number(buf: &mut [u8], o: usize, n: usize, x: u64)
 }
 
 // Where the next entry stands, and the members so far.
-#[derive(Drop)]
+#[derive(Clone, Copy)]
 struct Spot {
     at: usize,
     members: u64,

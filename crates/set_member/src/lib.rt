@@ -1,4 +1,5 @@
 // Where an id stands in a lent store, and whether it is a member: what every call on an id begins with.
+#![tactic(auto)]
 ghost use Rattle.std.specs.Prelude.{◌≡◌, ◌/◌, ltb};
 ghost use Rattle.util.specs.Outcome.{Settled};
 ghost use Rattle.store.specs.Answer.{asked_paper};
@@ -9,7 +10,7 @@ ghost use Rattle.set_member.specs.Place.{place_paper, Placed};
 use store::Asked;
 
 // Where an id stands: in a store of so many ids, whose layer 0 starts there, with this layer-0 word; past its end; or in no store.
-#[derive(Drop)]
+#[derive(Clone, Copy)]
 pub enum Place {
     In(usize, usize, u64),
     Past,

@@ -1,31 +1,32 @@
 // What every call on a store begins with and answers: the store test, where the layers stand, reading and writing a word, and the answers
 // that calls share. This crate alone knows the layout.
+#![tactic(auto)]
 ghost use Rattle.std.specs.Prelude.{◌≡◌, ◌≤◌, slice_index, slice_set};
 ghost use Rattle.store.specs.Layout.{top, max_cap, is_cap, store_len, words_for, cap, end_of, start_from, id_word_of, capacity_of, top_word};
 
 // Yes or no, or the refusal's number.
-#[derive(Drop)]
+#[derive(Clone, Copy)]
 pub enum Asked {
     Is(bool),
     Refused(u32),
 }
 
 // Done, or the refusal's number.
-#[derive(Drop)]
+#[derive(Clone, Copy)]
 pub enum Did {
     Done,
     Refused(u32),
 }
 
 // An id, or the refusal's number.
-#[derive(Drop)]
+#[derive(Clone, Copy)]
 pub enum Found {
     At(u32),
     Refused(u32),
 }
 
 // A word, or the refusal's number.
-#[derive(Drop)]
+#[derive(Clone, Copy)]
 pub enum Read {
     Word(u64),
     Refused(u32),

@@ -1,4 +1,5 @@
 // Summaries rebuilt from layer 0, and the soundness check: layer by layer from layer 1 up, by one word over 64 words below it.
+#![tactic(auto)]
 ghost use Rattle.std.specs.Prelude.{◌++◌, ◌≡◌, drop, take};
 ghost use Rattle.util.specs.Outcome.{Settled};
 ghost use Rattle.util.specs.Word.{same};
@@ -24,7 +25,7 @@ fn summarize(part: &mut [u64], up: usize)
 }
 
 // Two layers of a store that stand one behind the other: where the upper one starts, how many words it has, where the lower one ends.
-#[derive(Drop)]
+#[derive(Clone, Copy)]
 struct Pair {
     start: usize,
     up: usize,

@@ -1,11 +1,12 @@
 // What the programs read: lines joined from pieces of input, and decimal numbers in them.
+#![tactic(auto)]
 ghost use Rattle.std.specs.Prelude.{◌≡◌};
 ghost use Rattle.text_out.specs.Out.{holding};
 ghost use Rattle.text_in.specs.Line.{keep_of, taken_text, gather_of};
 ghost use Rattle.text_in.specs.Number.{digit_of, number_of};
 
 // How long the line is now, where the piece goes on, and whether a newline ended the line.
-#[derive(Drop)]
+#[derive(Clone, Copy)]
 pub struct Gathered {
     pub len: usize,
     pub next: usize,
@@ -50,7 +51,7 @@ pub fn gather_line(line: &mut [u8], len: usize, piece: &[u8], from: usize) -> Ga
 }
 
 // A decimal number with the place after it, or none.
-#[derive(Drop)]
+#[derive(Clone, Copy)]
 pub enum Decimal {
     Is(u64, usize),
     Nothing,

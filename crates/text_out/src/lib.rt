@@ -1,4 +1,5 @@
 // What the programs write: output joined in a lent buffer, and decimal numbers.
+#![tactic(auto)]
 ghost use Rattle.std.specs.Prelude.{◌++◌, ◌∷◌, [], ◌≡◌};
 ghost use Rattle.text_out.specs.Out.{holding, put_of, put_all_of, decimal_of};
 

@@ -1,4 +1,5 @@
 // Bits and shifts: the Rust's util.rs on 64-bit words, and the lowest set bit.
+#![tactic(auto)]
 ghost use Rattle.std.specs.Prelude.{◌≡◌, ◌%◌, ◌-◌, ◌^◌, eqb};
 ghost use Rattle.std.specs.Int.Count.{count_trailing_zeros};
 ghost use Rattle.util.specs.Row.{offset_of, row_of, mask_of, offsets_of};
@@ -17,7 +18,7 @@ pub const SHIFT2: usize = SHIFT1 + BITS;
 pub const SHIFT3: usize = SHIFT2 + BITS;
 
 // The words of the layers 0, 1 and 2 that an id's bits stand in.
-#[derive(Drop)]
+#[derive(Clone, Copy)]
 pub struct Parents {
     pub layer0: usize,
     pub layer1: usize,

@@ -1,4 +1,5 @@
 // The walk of one store: the Rust's iter/mod.rs, `BitIter`, as a cursor by value whose calls hand it back.
+#![tactic(auto)]
 ghost use Rattle.std.specs.Prelude.{true, [], ◌∷◌, ◌≡◌, ℕ, suc, ◌+◌, ◌-◌, ◌%◌, ◌<◌, get_or};
 ghost use Rattle.util.specs.Outcome.{Settled};
 ghost use Rattle.store.specs.Layout.{top, top_most};
@@ -9,14 +10,14 @@ ghost use Rattle.walk.specs.Walk.{low_layer, kind, first_bit, place_at, handed, 
 pub use walk_masks::are_prefixes;
 
 // Layer k's mask and prefix stand at place k; the top layer has no prefix.
-#[derive(Drop)]
+#[derive(Clone, Copy)]
 pub struct Cursor {
     pub masks: [u64; store::LAYERS],
     pub prefix: [u32; store::TOP],
 }
 
 // What a call of the walk answers.
-#[derive(Drop)]
+#[derive(Clone, Copy)]
 pub enum Next {
     Member(u32),
     Paused,
@@ -25,7 +26,7 @@ pub enum Next {
 }
 
 // The changed cursor, the words read by this call, and its answer.
-#[derive(Drop)]
+#[derive(Clone, Copy)]
 pub struct Step {
     pub cursor: Cursor,
     pub reads: u64,
@@ -33,7 +34,7 @@ pub struct Step {
 }
 
 // A cursor, and the words that were read on the way to it.
-#[derive(Drop)]
+#[derive(Clone, Copy)]
 pub struct Sunk {
     pub cursor: Cursor,
     pub reads: u64,

@@ -1,4 +1,5 @@
 // Many members of one store in one call, for callers that keep a cursor: what that many calls of `Cursor::next` do, with the tests made once.
+#![tactic(auto)]
 ghost use Rattle.std.specs.Prelude.{[], ◌∷◌, ◌≡◌, ◌%◌, ◌^◌, length, set};
 ghost use Rattle.util.specs.Outcome.{Settled};
 ghost use Rattle.store.specs.Layout.{top_most};
@@ -10,7 +11,7 @@ ghost use Rattle.walk_fill.specs.Fill.{fill_from, batch_paper, filled, fill_of, 
 use walk::Cursor;
 
 // Why a fill stopped: the places were full, or as next.
-#[derive(Drop)]
+#[derive(Clone, Copy)]
 pub enum Stop {
     Full,
     Paused,
@@ -19,7 +20,7 @@ pub enum Stop {
 }
 
 // The changed cursor, the words read by this call, the members handed out, and why no more were.
-#[derive(Drop)]
+#[derive(Clone, Copy)]
 pub struct Batch {
     pub cursor: Cursor,
     pub reads: u64,

@@ -1,1 +1,2 @@
 // No code: what walks do, over any layer words and on one store.
+#![tactic(auto)]

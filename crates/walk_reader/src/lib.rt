@@ -1,4 +1,5 @@
 // The walk of one store as the Rust's `BitIter`: a reader that holds the lent store beside its cursor.
+#![tactic(auto)]
 ghost use Rattle.std.specs.Prelude.{◌≡◌};
 ghost use Rattle.walk.specs.Calls.{next_in};
 ghost use Rattle.walk_batches.specs.Calls.{started_of};
@@ -14,7 +15,7 @@ pub struct BitIter<'a> {
 }
 
 // A step without its cursor: the words read by this call, and its answer.
-#[derive(Drop)]
+#[derive(Clone, Copy)]
 pub struct Told {
     pub reads: u64,
     pub answer: Next,
