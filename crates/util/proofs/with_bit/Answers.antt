@@ -12,13 +12,13 @@ at : (on x : Bool) (w b : ℕ) → on ≡ x → cond x (bit_or w (2 ^ b)) (bit_a
 unfolding change
 at on x w b e = ap (λ (y : Bool). cond y (bit_or w (2 ^ b)) (bit_and w (flip (2 ^ b)))) (sym e)
 
-pub returns_then_on : goal.returns-then-on
-returns_then_on c =
+pub returns-then-on : goal.returns-then-on
+returns-then-on c =
     let a = c.before.args in
     ap (bit_or a.w) (shl_one (a.b % 64) (omega arith)) ∙ at a.on _ a.w (a.b % 64) c.if-on.true
 
-pub returns_else_on : goal.returns-else-on
-returns_else_on c =
+pub returns-else-on : goal.returns-else-on
+returns-else-on c =
     let d = c.before in
     let a = d.args in
     ap (λ (m : ℕ). bit_and a.w (flip m)) (shl_one (a.b % 64) (omega arith)) ∙ at a.on _ a.w (a.b % 64) c.if-on.false
