@@ -1,0 +1,7 @@
+-- `export_directory::fen_directory_open` meets its contract.
+use Rattle.store.specs.Answer.{did_paper}
+use Rattle.export_directory.proofs.Told.{directory-told}
+use Rattle.export_directory.proofs.fen_directory_open.Goals as goal
+
+pub returns : goal.returns
+returns c = directory-told did_paper c.«open».ensures c.did.ensures

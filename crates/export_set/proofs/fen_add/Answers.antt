@@ -1,0 +1,7 @@
+-- `export_set::fen_add` meets its contract.
+use Rattle.store.specs.Answer.{asked_paper}
+use Rattle.export_answer.proofs.Tells.{tells}
+use Rattle.export_set.proofs.fen_add.Goals as goal
+
+pub returns : goal.returns
+returns c = (tells asked_paper c.add.ensures c.asked.ensures, c.add.ensures.memory)

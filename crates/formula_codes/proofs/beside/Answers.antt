@@ -1,0 +1,6 @@
+-- `beside` meets its contract.
+use Rattle.formula_codes.proofs.Answers.{beside_none}
+use Rattle.formula_codes.proofs.beside.Goals as goal
+
+pub returns-then-s-eq0 : goal.returns-then-s-eq0
+returns-then-s-eq0 c = let a = c.args in beside_none a.n a.s.now c.if-s-eq0.true

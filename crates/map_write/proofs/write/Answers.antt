@@ -1,0 +1,117 @@
+-- `write` meets its contract.
+use mathlib.Core.Path.{◌≡◌}
+use native.Mathlib.Omega.{arith}
+use Rattle.store.specs.Layout.{StoreOf}
+use Rattle.store.specs.Word.{Words64}
+use Rattle.store.proofs.Ends.{some_store, no_store, store_small, Lent0, lent0}
+use Rattle.map_format.specs.Steps.{with_last}
+use Rattle.map_write.specs.Map.{told_words}
+use Rattle.map_write.proofs.Answers.{write_2, write_8, write_room, write_done}
+use Rattle.map_write.proofs.Layer.{lent, some_lent, fits, layer_words_are}
+use Rattle.map_write.proofs.write.Goals as goal
+
+pub returns-then-n-eq0 : goal.returns-then-n-eq0
+returns-then-n-eq0 c =
+    let y = c.before in
+    let a = y.args in
+    write_2 a.store.now a.buf-1.now (no_store a.store.now y.capacity-n.ensures c.if-n-eq0.true)
+
+pub offset_bounds-store-start : goal.offset_bounds-store-start
+offset_bounds-store-start c =
+    -- past the first test the slice is a store, of words
+    let store_here : StoreOf c.capacity-n.result c.args.store.now =
+        some_store c.args.store.now c.capacity-n.ensures c.if-n-eq0.false in
+    -- layer 0 is lent as the store's end
+    let lent_here : let e = c.before in Lent0 e.capacity-n.result e.args.store.now c.start-start.result =
+        lent0 store_here c.start-start.ensures in
+    omega (arith, (lent_here).inside, store_small store_here)
+
+pub slice_bounds-layer-count : goal.slice_bounds-layer-count
+slice_bounds-layer-count c =
+    -- past the first test the slice is a store, of words
+    let store_here : StoreOf c.capacity-n.result c.args.store.now =
+        some_store c.args.store.now c.capacity-n.ensures c.if-n-eq0.false in
+    -- layer 0 is lent as the store's end
+    let lent_here : let e = c.before in Lent0 e.capacity-n.result e.args.store.now c.start-start.result =
+        lent0 store_here c.start-start.ensures in
+    (lent_here).inside
+
+pub slice_bounds-layer-start : goal.slice_bounds-layer-start
+slice_bounds-layer-start c =
+    -- past the first test the slice is a store, of words
+    let store_here : StoreOf c.capacity-n.result c.args.store.now =
+        some_store c.args.store.now c.capacity-n.ensures c.if-n-eq0.false in
+    -- layer 0 is lent as the store's end
+    let lent_here : let e = c.before in Lent0 e.capacity-n.result e.args.store.now c.start-start.result =
+        lent0 store_here c.start-start.ensures in
+    (lent_here).inside
+
+pub overflow_sub-layer : goal.overflow_sub-layer
+overflow_sub-layer c =
+    -- past the first test the slice is a store, of words
+    let store_here : StoreOf c.capacity-n.result c.args.store.now =
+        some_store c.args.store.now c.capacity-n.ensures c.if-n-eq0.false in
+    -- layer 0 is lent as the store's end
+    let lent_here : let e = c.before in Lent0 e.capacity-n.result e.args.store.now c.start-start.result =
+        lent0 store_here c.start-start.ensures in
+    let a = c.before in some_lent store_here lent_here
+
+pub returns-then-not-map_fits : goal.returns-then-not-map_fits
+returns-then-not-map_fits c =
+    -- past the first test the slice is a store, of words
+    let store_here : StoreOf c.capacity-n.result c.args.store.now =
+        some_store c.args.store.now c.capacity-n.ensures c.if-n-eq0.false in
+    let small : Words64 c.args.store.now =
+        λ x. omega (arith, c.shared_slice_known-1.given x) in
+    -- layer 0 is lent as the store's end
+    let lent_here : let e = c.before in Lent0 e.capacity-n.result e.args.store.now c.start-start.result =
+        lent0 store_here c.start-start.ensures in
+    -- the words that the code works on are those of the definition
+    let words_here : let a = c.before.before in let y = a.before.before in let s = y.args.store.now in with_last (lent s a.start-start.result) c.kept_word-last.result ≡ told_words y.capacity-n.result s =
+        let a = c.before.before in
+        layer_words_are store_here lent_here (small) c.kept_word-last.ensures in
+    let r = c.before in
+    let e = r.before.before.before.before in
+    write_8 store_here e.args.buf-1.now words_here r.map_fits.ensures c.if-not-map_fits.true
+
+pub put_map-end-requires : goal.put_map-end-requires
+put_map-end-requires c =
+    -- past the first test the slice is a store, of words
+    let store_here : StoreOf c.capacity-n.result c.args.store.now =
+        some_store c.args.store.now c.capacity-n.ensures c.if-n-eq0.false in
+    -- layer 0 is lent as the store's end
+    let lent_here : let e = c.before in Lent0 e.capacity-n.result e.args.store.now c.start-start.result =
+        lent0 store_here c.start-start.ensures in
+    let small : Words64 c.args.store.now =
+        λ x. omega (arith, c.shared_slice_known-1.given x) in
+    -- the words that the code works on are those of the definition
+    let words_here : let a = c.before.before in let y = a.before.before in let s = y.args.store.now in with_last (lent s a.start-start.result) c.kept_word-last.result ≡ told_words y.capacity-n.result s =
+        let a = c.before.before in
+        layer_words_are store_here lent_here (small) c.kept_word-last.ensures in
+    let f = c.before in
+    let r = f.before in
+    let a = r.before.before.before in
+    let e = a.before in
+    let z = store_here in
+    fits z lent_here r.kept_word-last.result
+    (write_room z e.args.buf-1.now words_here r.map_fits.ensures f.if-not-map_fits.false)
+
+pub returns : goal.returns
+returns c =
+    -- past the first test the slice is a store, of words
+    let store_here : StoreOf c.capacity-n.result c.args.store.now =
+        some_store c.args.store.now c.capacity-n.ensures c.if-n-eq0.false in
+    let small : Words64 c.args.store.now =
+        λ x. omega (arith, c.shared_slice_known-1.given x) in
+    -- layer 0 is lent as the store's end
+    let lent_here : let e = c.before in Lent0 e.capacity-n.result e.args.store.now c.start-start.result =
+        lent0 store_here c.start-start.ensures in
+    -- the words that the code works on are those of the definition
+    let words_here : let a = c.before.before in let y = a.before.before in let s = y.args.store.now in with_last (lent s a.start-start.result) c.kept_word-last.result ≡ told_words y.capacity-n.result s =
+        let a = c.before.before in
+        layer_words_are store_here lent_here (small) c.kept_word-last.ensures in
+    let p = c.before.before in
+    let f = p.before.before in
+    let r = f.before in
+    let e = r.before.before.before.before in
+    write_done store_here e.args.buf-1.now words_here r.map_fits.ensures f.if-not-map_fits.false p.put_map-end.ensures

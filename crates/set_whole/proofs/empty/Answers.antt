@@ -1,0 +1,12 @@
+-- `empty` meets its contract.
+use mathlib.Core.List.{List}
+use mathlib.Core.Path.{ap, ◌∙◌}
+use Prim.Native.Nat.{ℕ}
+use lib.ListN.{set}
+use Rattle.set_whole.proofs.empty.Goals as goal
+
+pub returns : goal.returns
+returns c =
+    let p = c.before.before in
+    let z = p.before.before.before.before in
+    p.name.ensures ∙ ap (λ (l : List ℕ). set l 0 z.args.n) z.zero.ensures
