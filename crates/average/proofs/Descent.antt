@@ -1,7 +1,7 @@
 -- The binary search down the counts: one step, over the stride.
 use mathlib.Core.Path.{◌≡◌, sym, ap, ap₂, ◌∙◌, subst}
 use Prim.Native.Nat.{ℕ, suc, ◌+◌, ◌-◌, ◌*◌, ◌/◌, ◌%◌, ◌^◌, ◌≤◌, ◌<◌}
-use native.Mathlib.Nat.{suc-mul, add-mul, mul-add, lt_of_not_le, mul-le-mul_right, not-le_of_lt}
+use native.Mathlib.Nat.{suc-mul, add-mul, mul-add, lt_of_not-le, mul-le-mul_right, not-le_of_lt}
 use native.Mathlib.Omega.{arith}
 use lib.Bits.{bit_and}
 use lib.Count.{ones}
@@ -17,9 +17,9 @@ module _ (n t : ℕ) (s : Search) (child k mask : ℕ) (g : HalfStep n t s child
       let at : r ≡ i * k + k = e ∙ omega (arith, mul-add (suc f) k k, suc-mul f k, suc-mul (f + f) k, add-mul f f k) in
       let below : r - k ≡ i * k = omega arith in
       let inside : i < g.fields =
-      lt_of_not_le (λ (b : g.fields ≤ i). not-le_of_lt g.some (omega (arith, g.whole, mul-le-mul_right k b))) in
+      lt_of_not-le (λ (b : g.fields ≤ i). not-le_of_lt g.some (omega (arith, g.whole, mul-le-mul_right k b))) in
       let taken : bit_and (child / 2 ^ (r - k)) mask ≡ ones (n / 2 ^ (i * k) % 2 ^ k) =
-      ap₂ (λ (x y : ℕ). bit_and (x / 2 ^ (r - k)) y) g.child-is g.mask_is
+      ap₂ (λ (x y : ℕ). bit_and (x / 2 ^ (r - k)) y) g.child_is g.mask_is
       ∙ ap (λ (x : ℕ). bit_and (tally k g.fields n / 2 ^ x) (2 ^ g.bits - 1)) below
       ∙ field_masked k g.fields i n g.bits inside g.narrow g.wide in
       ap₂ (λ (x y : ℕ). bits_above n x + y) at taken ∙ sym (above_split n (i * k) k) ∙ ap (bits_above n) (sym below)
@@ -36,7 +36,7 @@ module _ (n t : ℕ) (s : Search) (child k mask : ℕ) (g : HalfStep n t s child
         field = f + f;
         aligned = al;
         inside = omega (arith, a.inside);
-        target_is = omega (arith, ap (bits_above n) here, a.cur-is, a.target_is);
+        target_is = omega (arith, ap (bits_above n) here, a.cur_is, a.target_is);
         target_pos = omega arith;
         cur_is = upper (s.result - 2 * k) (f + f) al (omega (arith, a.inside));
         reach = subst (λ (x : ℕ). t ≤ bits_above n x) (omega arith) a.reach;
@@ -53,7 +53,7 @@ module _ (n t : ℕ) (s : Search) (child k mask : ℕ) (g : HalfStep n t s child
         aligned = al;
         inside = a.inside;
         target_is = a.target_is;
-        target_pos = a.target-pos;
+        target_pos = a.target_pos;
         cur_is = upper s.result (suc (f + f)) al a.inside;
-        reach = omega (arith, a.cur-is, a.target_is);
+        reach = omega (arith, a.cur_is, a.target_is);
       }

@@ -1,5 +1,6 @@
 // The bit that splits a word's set bits: `average_ones` of the Rust's util.rs on 64-bit words.
 #![tactic(auto)]
+
 ghost use Rattle.std.specs.Prelude.{ℕ};
 ghost use Rattle.util.specs.Outcome.{Settled};
 ghost use Rattle.average.specs.Average.{paper, average_of};

@@ -5,5 +5,6 @@ pub mod Members
 pub mod Build
 pub mod Count
 pub mod Ends
+pub mod Papers
 pub mod Parts
 pub mod Answers

@@ -43,13 +43,12 @@ abbrev asked : Asked → List ℕ
 asked (Is b) = 0 ∷ cond b 1 0 ∷ []
 asked (AskedRefused n) = n ∷ []
 
-abbrev asked_back : (r : Asked) → read_back (λ v. Is (v == 1)) AskedRefused (asked r) ≡ r
-asked_back (Is true) = refl
-asked_back (Is false) = refl
-asked_back (AskedRefused n) = refl
-
 abbrev pub asked_paper : Paper Asked
-asked_paper = record { numbers = asked; answer = read_back (λ v. Is (v == 1)) AskedRefused; same = asked_back }
+asked_paper = record {
+  numbers = asked;
+  answer = read_back (λ v. Is (v == 1)) AskedRefused;
+  same = λ r. elim r as (λ x. read_back (λ v. Is (v == 1)) AskedRefused (asked x) ≡ x) [ Is b ↦ elim b as (λ x. read_back (λ v. Is (v == 1)) AskedRefused (asked (Is x)) ≡ Is x) [ true ↦ refl | false ↦ refl ] | AskedRefused n ↦ refl ];
+}
 
 -- ---- done
 
@@ -57,12 +56,12 @@ abbrev did : Did → List ℕ
 did Done = 0 ∷ 0 ∷ []
 did (DidRefused n) = n ∷ []
 
-abbrev did_back : (r : Did) → read_back (λ v. Done) DidRefused (did r) ≡ r
-did_back Done = refl
-did_back (DidRefused n) = refl
-
 abbrev pub did_paper : Paper Did
-did_paper = record { numbers = did; answer = read_back (λ v. Done) DidRefused; same = did_back }
+did_paper = record {
+  numbers = did;
+  answer = read_back (λ v. Done) DidRefused;
+  same = λ r. elim r as (λ x. read_back (λ v. Done) DidRefused (did x) ≡ x) [ Done ↦ refl | DidRefused n ↦ refl ];
+}
 
 -- ---- an id
 
@@ -70,12 +69,12 @@ abbrev found : Found → List ℕ
 found (At i) = 0 ∷ i ∷ []
 found (FoundRefused n) = n ∷ []
 
-abbrev found_back : (r : Found) → read_back At FoundRefused (found r) ≡ r
-found_back (At i) = refl
-found_back (FoundRefused n) = refl
-
 abbrev pub found_paper : Paper Found
-found_paper = record { numbers = found; answer = read_back At FoundRefused; same = found_back }
+found_paper = record {
+  numbers = found;
+  answer = read_back At FoundRefused;
+  same = λ r. elim r as (λ x. read_back At FoundRefused (found x) ≡ x) [ At i ↦ refl | FoundRefused n ↦ refl ];
+}
 
 -- ---- a word
 
@@ -83,9 +82,9 @@ abbrev read : Read → List ℕ
 read (Word w) = 0 ∷ w ∷ []
 read (ReadRefused n) = n ∷ []
 
-abbrev read_read : (r : Read) → read_back Word ReadRefused (read r) ≡ r
-read_read (Word w) = refl
-read_read (ReadRefused n) = refl
-
 abbrev pub read_paper : Paper Read
-read_paper = record { numbers = read; answer = read_back Word ReadRefused; same = read_read }
+read_paper = record {
+  numbers = read;
+  answer = read_back Word ReadRefused;
+  same = λ r. elim r as (λ x. read_back Word ReadRefused (read x) ≡ x) [ Word w ↦ refl | ReadRefused n ↦ refl ];
+}

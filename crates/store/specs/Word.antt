@@ -1,5 +1,5 @@
 -- Words, bits, members, soundness.
-use Rattle.std.specs.Prelude.{◌≡◌, ℕ, zero, suc, ◌+◌, ◌/◌, ◌%◌, ◌^◌, ◌<◌, ◌≤◌, min, ◌≢◌, ◌↔◌, List, length, take, drop, set, slice_index, slice_set}
+use Rattle.std.specs.Prelude.{◌≡◌, ℕ, zero, suc, ◌+◌, ◌/◌, ◌%◌, ◌^◌, ◌<◌, ◌≤◌, min, ◌≢◌, ◌↔◌, List, length, take, drop, slice_index, slice_set}
 use Rattle.util.specs.Word.{bit, places}
 use Rattle.store.specs.Layout.{top, room, layer_len, layer_start, cap, StoreOf}
 

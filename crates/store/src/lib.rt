@@ -1,6 +1,7 @@
 // What every call on a store begins with and answers: the store test, where the layers stand, reading and writing a word, and the answers
 // that calls share. This crate alone knows the layout.
 #![tactic(auto)]
+
 ghost use Rattle.std.specs.Prelude.{◌≡◌, ◌≤◌, slice_index, slice_set};
 ghost use Rattle.store.specs.Layout.{top, max_cap, is_cap, store_len, words_for, cap, end_of, start_from, id_word_of, capacity_of, top_word};
 

@@ -1,5 +1,6 @@
 // Bits and shifts: the Rust's util.rs on 64-bit words, and the lowest set bit.
 #![tactic(auto)]
+
 ghost use Rattle.std.specs.Prelude.{◌≡◌, ◌%◌, ◌-◌, ◌^◌, eqb};
 ghost use Rattle.std.specs.Int.Count.{count_trailing_zeros};
 ghost use Rattle.util.specs.Row.{offset_of, row_of, mask_of, offsets_of};

@@ -2,17 +2,15 @@
 -- comparison leaves one bit.
 -- ---- the count, and the start of the search
 use mathlib.Core.Path.{◌≡◌, refl, sym, ap, ◌∙◌}
-use Prim.Native.Nat.{ℕ, suc, ◌+◌, ◌-◌, ◌*◌, ◌/◌, ◌^◌, ◌≤◌, ◌<◌}
+use Prim.Native.Nat.{ℕ, suc, ◌+◌, ◌-◌, ◌*◌, ◌/◌, ◌^◌, ◌<◌}
 use native.Mathlib.Omega.{arith}
 use lib.Arith.{digits_div}
 use lib.Bits.{bit_and}
 use lib.Count.{ones, ones-le}
 use lib.Dec.{T, ltb, leb, lit<, ltb→lt, leb→le}
 use lib.Pow.{shr_lt}
-use Rattle.util.specs.Outcome.{Settled}
-use Rattle.average.specs.Average.{paper, average_of}
-use Rattle.average.specs.Search.{tally, bits_above, InRange, HalfStep}
-use Rattle.average.specs.declared.Half.TheVariants.{At}
+use Rattle.average.specs.Search.{tally, bits_above, InRange, HalfStep, Tallied}
+use Rattle.average.specs.declared.Tallies.{Tallies}
 use Rattle.average.specs.declared.Search.{Search}
 use Rattle.average.proofs.Average.{found, none_found, above_none, above_all}
 use Rattle.average.proofs.Tally.{lower, twice, by_one_mask, tally-bits, tally_whole, mask_widens, field_lt}
@@ -69,182 +67,97 @@ step n t k m q w i s a e g l =
 pub overflow_add-count : goal.overflow_add-count
 overflow_add-count c =
     let e = c.count_fields-l in
-    record { fits = omega (arith, small c.args.n e.result.e c.ranges.n.fits e.ensures.e-is) }
+    record { fits = omega (arith, small c.args.n e.result.e c.ranges.n.fits e.ensures.e_is) }
 
 pub returns-then-count-le1 : goal.returns-then-count-le1
 returns-then-count-le1 c =
     let n : ℕ = c.args.n in
     let e = c.count_fields-l in
     let word : n < 2 ^ 64 = c.ranges.n.fits in
-    none_found n word (omega (arith, count_is n e.result.e word e.ensures.e-is, c.if-count-le1.true))
+    none_found n word (omega (arith, count_is n e.result.e word e.ensures.e_is, c.if-count-le1.true))
 
--- the steps, by the places at which they are made; `Word c` is the word
-abbrev Word : goal.Else-count-le1 → ℕ
-Word c = c.args.n
+-- what a step down tells
+abbrev Down : Search → ℕ → ℕ → ℕ → Search → Type 0
+Down s child k mask r = (n t : ℕ) → HalfStep n t s child k mask → InRange n t k r
 
-abbrev Goal : goal.Else-count-le1 → ℕ
-Goal c = ones (Word c) / 2
+-- what each step asks, where the counts are told and the steps before it
+module _ (n : ℕ) (l : Tallies) (word : n < 2 ^ 64) (told : Tallied n l) (some : 1 < counted l.e) where
+  ask16 : HalfStep n (ones n / 2) (whole l.e) l.d 16 255
+  ask16 = step n (ones n / 2) 16 4 8 (start n l.e word told.e_is some) told.d_is tt refl refl tt tt
+
+  ask8 : {s16 : Search} → Down (whole l.e) l.d 16 255 s16 → HalfStep n (ones n / 2) s16 l.c 8 15
+  ask8 d16 = step _ _ 8 8 4 (d16 _ _ ask16) told.c_is tt refl refl tt tt
+
+  ask4 : {s16 s8 : Search} → Down (whole l.e) l.d 16 255 s16 → Down s16 l.c 8 15 s8 → HalfStep n (ones n / 2) s8 l.b 4 7
+  ask4 d16 d8 = step _ _ 4 16 3 (d8 _ _ (ask8 d16)) told.b_is tt refl refl tt tt
+
+  ask2 : {s16 s8 s4 : Search} → Down (whole l.e) l.d 16 255 s16 → Down s16 l.c 8 15 s8 → Down s8 l.b 4 7 s4 → HalfStep n (ones n / 2) s4 l.a 2 3
+  ask2 d16 d8 d4 = step _ _ 2 32 2 (d4 _ _ (ask4 d16 d8)) told.a_is tt refl refl tt tt
+
+  ask1 : {s16 s8 s4 s2 : Search} → Down (whole l.e) l.d 16 255 s16 → Down s16 l.c 8 15 s8 → Down s8 l.b 4 7 s4 → Down s4 l.a 2 3 s2
+      → HalfStep n (ones n / 2) s2 n 1 1
+  ask1 d16 d8 d4 d2 = step _ _ 1 64 1 (d2 _ _ (ask2 d16 d8 d4)) (sym (tally-bits 64 n word)) tt refl refl tt tt
+
+  -- where the search ends: two bits are left
+  last : {s16 s8 s4 s2 s1 : Search} → Down (whole l.e) l.d 16 255 s16 → Down s16 l.c 8 15 s8 → Down s8 l.b 4 7 s4 → Down s4 l.a 2 3 s2
+      → Down s2 n 1 1 s1 → InRange n (ones n / 2) 1 s1
+  last d16 d8 d4 d2 d1 = d1 _ _ (ask1 d16 d8 d4 d2)
 
 pub descend-s16-requires : goal.descend-s16-requires
-descend-s16-requires c =
-    let s16 : HalfStep (Word c) (Goal c) (whole c.count_fields-l.result.e) c.count_fields-l.result.d 16 255 =
-        let l = c.count_fields-l in
-        step (Word c) (Goal c) 16 4 8 (start (Word c) l.result.e c.ranges.n.fits l.ensures.e-is c.if-count-le1.false) l.ensures.d-is tt refl refl tt tt in
-    (_, _, s16)
+descend-s16-requires c = (_, _, ask16 c.args.n c.count_fields-l.result c.ranges.n.fits c.count_fields-l.ensures c.if-count-le1.false)
 
 pub descend-s8-requires : goal.descend-s8-requires
 descend-s8-requires c =
-    let s16 : HalfStep (Word c) (Goal c) (whole c.count_fields-l.result.e) c.count_fields-l.result.d 16 255 =
-        let l = c.count_fields-l in
-        step (Word c) (Goal c) 16 4 8 (start (Word c) l.result.e c.ranges.n.fits l.ensures.e-is c.if-count-le1.false) l.ensures.d-is tt refl refl tt tt in
-    let s8 : HalfStep (Word c.before) (Goal c.before) c.descend-s16.result c.count_fields-l.result.c 8 15 =
-        step _ _ 8 8 4 (c.descend-s16.ensures _ _ s16) c.count_fields-l.ensures.c-is tt refl refl tt tt in
-    (_, _, s8)
+    (_, _, ask8 c.args.n c.count_fields-l.result c.ranges.n.fits c.count_fields-l.ensures c.if-count-le1.false c.descend-s16.ensures)
 
 pub descend-s4-requires : goal.descend-s4-requires
 descend-s4-requires c =
-    let s16 : HalfStep (Word c) (Goal c) (whole c.count_fields-l.result.e) c.count_fields-l.result.d 16 255 =
-        let l = c.count_fields-l in
-        step (Word c) (Goal c) 16 4 8 (start (Word c) l.result.e c.ranges.n.fits l.ensures.e-is c.if-count-le1.false) l.ensures.d-is tt refl refl tt tt in
-    let s8 : HalfStep (Word c.before) (Goal c.before) c.descend-s16.result c.count_fields-l.result.c 8 15 =
-        step _ _ 8 8 4 (c.descend-s16.ensures _ _ s16) c.count_fields-l.ensures.c-is tt refl refl tt tt in
-    let s4 : HalfStep (Word c.before.before) (Goal c.before.before) c.descend-s8.result c.count_fields-l.result.b 4 7 =
-        step _ _ 4 16 3 (c.descend-s8.ensures _ _ s8) c.count_fields-l.ensures.b-is tt refl refl tt tt in
-    (_, _, s4)
+    (_, _, ask4 c.args.n c.count_fields-l.result c.ranges.n.fits c.count_fields-l.ensures c.if-count-le1.false c.descend-s16.ensures c.descend-s8.ensures)
 
 pub descend-s2-requires : goal.descend-s2-requires
-descend-s2-requires c =
-    let s16 : HalfStep (Word c) (Goal c) (whole c.count_fields-l.result.e) c.count_fields-l.result.d 16 255 =
-        let l = c.count_fields-l in
-        step (Word c) (Goal c) 16 4 8 (start (Word c) l.result.e c.ranges.n.fits l.ensures.e-is c.if-count-le1.false) l.ensures.d-is tt refl refl tt tt in
-    let s8 : HalfStep (Word c.before) (Goal c.before) c.descend-s16.result c.count_fields-l.result.c 8 15 =
-        step _ _ 8 8 4 (c.descend-s16.ensures _ _ s16) c.count_fields-l.ensures.c-is tt refl refl tt tt in
-    let s4 : HalfStep (Word c.before.before) (Goal c.before.before) c.descend-s8.result c.count_fields-l.result.b 4 7 =
-        step _ _ 4 16 3 (c.descend-s8.ensures _ _ s8) c.count_fields-l.ensures.b-is tt refl refl tt tt in
-    let s2 : HalfStep (Word c.before.before.before) (Goal c.before.before.before) c.descend-s4.result c.count_fields-l.result.a 2 3 =
-        step _ _ 2 32 2 (c.descend-s4.ensures _ _ s4) c.count_fields-l.ensures.a-is tt refl refl tt tt in
-    (_, _, s2)
+descend-s2-requires c = (
+  _,
+  _,
+  ask2 c.args.n c.count_fields-l.result c.ranges.n.fits c.count_fields-l.ensures c.if-count-le1.false c.descend-s16.ensures c.descend-s8.ensures
+      c.descend-s4.ensures,
+)
 
 pub descend-s1-requires : goal.descend-s1-requires
-descend-s1-requires c =
-    let s16 : HalfStep (Word c) (Goal c) (whole c.count_fields-l.result.e) c.count_fields-l.result.d 16 255 =
-        let l = c.count_fields-l in
-        step (Word c) (Goal c) 16 4 8 (start (Word c) l.result.e c.ranges.n.fits l.ensures.e-is c.if-count-le1.false) l.ensures.d-is tt refl refl tt tt in
-    let s8 : HalfStep (Word c.before) (Goal c.before) c.descend-s16.result c.count_fields-l.result.c 8 15 =
-        step _ _ 8 8 4 (c.descend-s16.ensures _ _ s16) c.count_fields-l.ensures.c-is tt refl refl tt tt in
-    let s4 : HalfStep (Word c.before.before) (Goal c.before.before) c.descend-s8.result c.count_fields-l.result.b 4 7 =
-        step _ _ 4 16 3 (c.descend-s8.ensures _ _ s8) c.count_fields-l.ensures.b-is tt refl refl tt tt in
-    let s2 : HalfStep (Word c.before.before.before) (Goal c.before.before.before) c.descend-s4.result c.count_fields-l.result.a 2 3 =
-        step _ _ 2 32 2 (c.descend-s4.ensures _ _ s4) c.count_fields-l.ensures.a-is tt refl refl tt tt in
-    let s1 : HalfStep (Word c.before.before.before.before) (Goal c.before.before.before.before) c.descend-s2.result (Word c.before.before.before.before) 1 1 =
-        let d = c.before.before.before.before in
-        step _ _ 1 64 1 (c.descend-s2.ensures _ _ s2) (sym (tally-bits 64 (Word d) d.ranges.n.fits)) tt refl refl tt tt in
-    (_, _, s1)
-
--- a place of which the bits above are too few and those from it on enough is the answer
-ended : (c : goal.After-descend-s1) (p : ℕ) → let d = c.before.before.before.before.before in
-    p < c.descend-s1.result.result → bits_above (Word d) (suc p) < Goal d → Goal d ≤ bits_above (Word d) p → Settled paper (average_of (Word d)) (At p) tt
-ended c p l lo hi =
-    let s16 : HalfStep (Word c) (Goal c) (whole c.count_fields-l.result.e) c.count_fields-l.result.d 16 255 =
-        let l = c.count_fields-l in
-        step (Word c) (Goal c) 16 4 8 (start (Word c) l.result.e c.ranges.n.fits l.ensures.e-is c.if-count-le1.false) l.ensures.d-is tt refl refl tt tt in
-    let s8 : HalfStep (Word c.before) (Goal c.before) c.descend-s16.result c.count_fields-l.result.c 8 15 =
-        step _ _ 8 8 4 (c.descend-s16.ensures _ _ s16) c.count_fields-l.ensures.c-is tt refl refl tt tt in
-    let s4 : HalfStep (Word c.before.before) (Goal c.before.before) c.descend-s8.result c.count_fields-l.result.b 4 7 =
-        step _ _ 4 16 3 (c.descend-s8.ensures _ _ s8) c.count_fields-l.ensures.b-is tt refl refl tt tt in
-    let s2 : HalfStep (Word c.before.before.before) (Goal c.before.before.before) c.descend-s4.result c.count_fields-l.result.a 2 3 =
-        step _ _ 2 32 2 (c.descend-s4.ensures _ _ s4) c.count_fields-l.ensures.a-is tt refl refl tt tt in
-    let s1 : HalfStep (Word c.before.before.before.before) (Goal c.before.before.before.before) c.descend-s2.result (Word c.before.before.before.before) 1 1 =
-        let d = c.before.before.before.before in
-        step _ _ 1 64 1 (c.descend-s2.ensures _ _ s2) (sym (tally-bits 64 (Word d) d.ranges.n.fits)) tt refl refl tt tt in
-    -- where the search ends: two bits are left
-    let last : let d = c.before.before.before.before.before in InRange (Word d) (Goal d) 1 c.descend-s1.result =
-        c.descend-s1.ensures _ _ s1 in
-    let d = c.before.before.before.before.before in
-    found (Word d) d.ranges.n.fits p (omega (arith, (last).inside)) lo hi
+descend-s1-requires c = (
+  _,
+  _,
+  ask1 c.args.n c.count_fields-l.result c.ranges.n.fits c.count_fields-l.ensures c.if-count-le1.false c.descend-s16.ensures c.descend-s8.ensures
+      c.descend-s4.ensures c.descend-s2.ensures,
+)
 
 pub overflow_sub-result : goal.overflow_sub-result
 overflow_sub-result c =
-    let s16 : HalfStep (Word c) (Goal c) (whole c.count_fields-l.result.e) c.count_fields-l.result.d 16 255 =
-        let l = c.count_fields-l in
-        step (Word c) (Goal c) 16 4 8 (start (Word c) l.result.e c.ranges.n.fits l.ensures.e-is c.if-count-le1.false) l.ensures.d-is tt refl refl tt tt in
-    let s8 : HalfStep (Word c.before) (Goal c.before) c.descend-s16.result c.count_fields-l.result.c 8 15 =
-        step _ _ 8 8 4 (c.descend-s16.ensures _ _ s16) c.count_fields-l.ensures.c-is tt refl refl tt tt in
-    let s4 : HalfStep (Word c.before.before) (Goal c.before.before) c.descend-s8.result c.count_fields-l.result.b 4 7 =
-        step _ _ 4 16 3 (c.descend-s8.ensures _ _ s8) c.count_fields-l.ensures.b-is tt refl refl tt tt in
-    let s2 : HalfStep (Word c.before.before.before) (Goal c.before.before.before) c.descend-s4.result c.count_fields-l.result.a 2 3 =
-        step _ _ 2 32 2 (c.descend-s4.ensures _ _ s4) c.count_fields-l.ensures.a-is tt refl refl tt tt in
-    let s1 : HalfStep (Word c.before.before.before.before) (Goal c.before.before.before.before) c.descend-s2.result (Word c.before.before.before.before) 1 1 =
-        let d = c.before.before.before.before in
-        step _ _ 1 64 1 (c.descend-s2.ensures _ _ s2) (sym (tally-bits 64 (Word d) d.ranges.n.fits)) tt refl refl tt tt in
-    -- where the search ends: two bits are left
-    let last : let d = c.before.before.before.before.before in InRange (Word d) (Goal d) 1 c.descend-s1.result =
-        c.descend-s1.ensures _ _ s1 in
-    omega (arith, (last).aligned)
+    let a = last c.args.n c.count_fields-l.result c.ranges.n.fits c.count_fields-l.ensures c.if-count-le1.false c.descend-s16.ensures c.descend-s8.ensures
+    c.descend-s4.ensures c.descend-s2.ensures c.descend-s1.ensures in
+    omega (arith, a.aligned)
 
 pub overflow_sub-result-else-s1 : goal.overflow_sub-result-else-s1
 overflow_sub-result-else-s1 c =
-    let s16 : HalfStep (Word c) (Goal c) (whole c.count_fields-l.result.e) c.count_fields-l.result.d 16 255 =
-        let l = c.count_fields-l in
-        step (Word c) (Goal c) 16 4 8 (start (Word c) l.result.e c.ranges.n.fits l.ensures.e-is c.if-count-le1.false) l.ensures.d-is tt refl refl tt tt in
-    let s8 : HalfStep (Word c.before) (Goal c.before) c.descend-s16.result c.count_fields-l.result.c 8 15 =
-        step _ _ 8 8 4 (c.descend-s16.ensures _ _ s16) c.count_fields-l.ensures.c-is tt refl refl tt tt in
-    let s4 : HalfStep (Word c.before.before) (Goal c.before.before) c.descend-s8.result c.count_fields-l.result.b 4 7 =
-        step _ _ 4 16 3 (c.descend-s8.ensures _ _ s8) c.count_fields-l.ensures.b-is tt refl refl tt tt in
-    let s2 : HalfStep (Word c.before.before.before) (Goal c.before.before.before) c.descend-s4.result c.count_fields-l.result.a 2 3 =
-        step _ _ 2 32 2 (c.descend-s4.ensures _ _ s4) c.count_fields-l.ensures.a-is tt refl refl tt tt in
-    let s1 : HalfStep (Word c.before.before.before.before) (Goal c.before.before.before.before) c.descend-s2.result (Word c.before.before.before.before) 1 1 =
-        let d = c.before.before.before.before in
-        step _ _ 1 64 1 (c.descend-s2.ensures _ _ s2) (sym (tally-bits 64 (Word d) d.ranges.n.fits)) tt refl refl tt tt in
-    -- where the search ends: two bits are left
-    let last : let d = c.before.before.before.before.before in InRange (Word d) (Goal d) 1 c.descend-s1.result =
-        c.descend-s1.ensures _ _ s1 in
-    omega (arith, (last).aligned)
+    let a = last c.args.n c.count_fields-l.result c.ranges.n.fits c.count_fields-l.ensures c.if-count-le1.false c.descend-s16.ensures c.descend-s8.ensures
+    c.descend-s4.ensures c.descend-s2.ensures c.descend-s1.ensures in
+    omega (arith, a.aligned)
 
+-- a place of which the bits above are too few and those from it on enough is the answer
 pub returns-then-s1 : goal.returns-then-s1
 returns-then-s1 c =
-    let s16 : HalfStep (Word c) (Goal c) (whole c.count_fields-l.result.e) c.count_fields-l.result.d 16 255 =
-        let l = c.count_fields-l in
-        step (Word c) (Goal c) 16 4 8 (start (Word c) l.result.e c.ranges.n.fits l.ensures.e-is c.if-count-le1.false) l.ensures.d-is tt refl refl tt tt in
-    let s8 : HalfStep (Word c.before) (Goal c.before) c.descend-s16.result c.count_fields-l.result.c 8 15 =
-        step _ _ 8 8 4 (c.descend-s16.ensures _ _ s16) c.count_fields-l.ensures.c-is tt refl refl tt tt in
-    let s4 : HalfStep (Word c.before.before) (Goal c.before.before) c.descend-s8.result c.count_fields-l.result.b 4 7 =
-        step _ _ 4 16 3 (c.descend-s8.ensures _ _ s8) c.count_fields-l.ensures.b-is tt refl refl tt tt in
-    let s2 : HalfStep (Word c.before.before.before) (Goal c.before.before.before) c.descend-s4.result c.count_fields-l.result.a 2 3 =
-        step _ _ 2 32 2 (c.descend-s4.ensures _ _ s4) c.count_fields-l.ensures.a-is tt refl refl tt tt in
-    let s1 : HalfStep (Word c.before.before.before.before) (Goal c.before.before.before.before) c.descend-s2.result (Word c.before.before.before.before) 1 1 =
-        let d = c.before.before.before.before in
-        step _ _ 1 64 1 (c.descend-s2.ensures _ _ s2) (sym (tally-bits 64 (Word d) d.ranges.n.fits)) tt refl refl tt tt in
-    -- where the search ends: two bits are left
-    let last : let d = c.before.before.before.before.before in InRange (Word d) (Goal d) 1 c.descend-s1.result =
-        c.descend-s1.ensures _ _ s1 in
-    let d = c.before.before.before in
-    let n : ℕ = Word d.before.before.before.before.before in
-    let r : ℕ = d.descend-s1.result.result in
-    let a = last in
+    let a = last c.args.n c.count_fields-l.result c.ranges.n.fits c.count_fields-l.ensures c.if-count-le1.false c.descend-s16.ensures c.descend-s8.ensures
+    c.descend-s4.ensures c.descend-s2.ensures c.descend-s1.ensures in
+    let n : ℕ = c.args.n in
+    let r : ℕ = c.descend-s1.result.result in
     let e : suc (r - 2) ≡ r - 1 = omega (arith, a.aligned) in
-    ended d (r - 2) (omega (arith, a.aligned)) (omega (arith, ap (bits_above n) e, a.cur-is, a.target_is, c.if-s1.true)) a.reach
+    found n c.ranges.n.fits (r - 2) (omega (arith, a.aligned, a.inside)) (omega (arith, ap (bits_above n) e, a.cur_is, a.target_is, c.if-s1.true)) a.reach
 
 pub returns-else-s1 : goal.returns-else-s1
 returns-else-s1 c =
-    let s16 : HalfStep (Word c) (Goal c) (whole c.count_fields-l.result.e) c.count_fields-l.result.d 16 255 =
-        let l = c.count_fields-l in
-        step (Word c) (Goal c) 16 4 8 (start (Word c) l.result.e c.ranges.n.fits l.ensures.e-is c.if-count-le1.false) l.ensures.d-is tt refl refl tt tt in
-    let s8 : HalfStep (Word c.before) (Goal c.before) c.descend-s16.result c.count_fields-l.result.c 8 15 =
-        step _ _ 8 8 4 (c.descend-s16.ensures _ _ s16) c.count_fields-l.ensures.c-is tt refl refl tt tt in
-    let s4 : HalfStep (Word c.before.before) (Goal c.before.before) c.descend-s8.result c.count_fields-l.result.b 4 7 =
-        step _ _ 4 16 3 (c.descend-s8.ensures _ _ s8) c.count_fields-l.ensures.b-is tt refl refl tt tt in
-    let s2 : HalfStep (Word c.before.before.before) (Goal c.before.before.before) c.descend-s4.result c.count_fields-l.result.a 2 3 =
-        step _ _ 2 32 2 (c.descend-s4.ensures _ _ s4) c.count_fields-l.ensures.a-is tt refl refl tt tt in
-    let s1 : HalfStep (Word c.before.before.before.before) (Goal c.before.before.before.before) c.descend-s2.result (Word c.before.before.before.before) 1 1 =
-        let d = c.before.before.before.before in
-        step _ _ 1 64 1 (c.descend-s2.ensures _ _ s2) (sym (tally-bits 64 (Word d) d.ranges.n.fits)) tt refl refl tt tt in
-    -- where the search ends: two bits are left
-    let last : let d = c.before.before.before.before.before in InRange (Word d) (Goal d) 1 c.descend-s1.result =
-        c.descend-s1.ensures _ _ s1 in
-    let d = c.before.before.before in
-    let n : ℕ = Word d.before.before.before.before.before in
-    let r : ℕ = d.descend-s1.result.result in
-    let a = last in
+    let a = last c.args.n c.count_fields-l.result c.ranges.n.fits c.count_fields-l.ensures c.if-count-le1.false c.descend-s16.ensures c.descend-s8.ensures
+    c.descend-s4.ensures c.descend-s2.ensures c.descend-s1.ensures in
+    let n : ℕ = c.args.n in
+    let r : ℕ = c.descend-s1.result.result in
     let e : suc (r - 1) ≡ r = omega (arith, a.aligned) in
-    ended d (r - 1) (omega (arith, a.aligned)) (omega (arith, ap (bits_above n) e, a.target_is, a.target-pos)) (omega (arith, a.cur-is, a.target_is, c.if-s1.false))
+    found n c.ranges.n.fits (r - 1) (omega (arith, a.aligned, a.inside)) (omega (arith, ap (bits_above n) e, a.target_is, a.target_pos))
+    (omega (arith, a.cur_is, a.target_is, c.if-s1.false))

@@ -2,11 +2,8 @@
 -- fields twice as wide.
 use mathlib.Core.Path.{◌≡◌, sym, ap, ◌∙◌}
 use Prim.Native.Nat.{ℕ, ◌+◌, ◌-◌, ◌/◌, ◌^◌, ◌<◌}
-use native.Mathlib.Nat.{le_trans}
-use native.Mathlib.Omega.{arith}
-use lib.Bits.{bit_and, and_le_l, and_le_r}
+use lib.Bits.{bit_and}
 use lib.Dec.{lit<}
-use lib.Pow.{shr_le}
 use Rattle.average.specs.Search.{tally}
 use Rattle.average.proofs.Tally.{lower, twice, by_minus, by_masks, by_one_mask, tally-bits, minus_widens, masks_widen, mask_widens}
 use Rattle.average.proofs.count_fields.Goals as goal
@@ -46,26 +43,6 @@ module _ (n : ℕ) (word : n < 2 ^ 64) where
   e_is : E n ≡ tally 32 2 n
   unfolding lower twice
   e_is = ap (by_one_mask 16 2) d_is ∙ mask_widens 16 (lit< tt) 2 n
-
-pub overflow_sub-a : goal.overflow_sub-a
-overflow_sub-a c = le_trans (and_le_l (c.args.n / 2) 0x5555_5555_5555_5555) (shr_le c.args.n 1)
-
--- what a mask leaves is at most the mask
-pub overflow_add-b : goal.overflow_add-b
-overflow_add-b c =
-    let n = c.args.n in
-    record { fits = omega (arith, and_le_r (A n) 0x3333_3333_3333_3333, and_le_r (A n / 4) 0x3333_3333_3333_3333) }
-
-pub overflow_add-c : goal.overflow_add-c
-overflow_add-c c =
-    let n = c.args.n in
-    record { fits = omega (arith, and_le_r (A n) 0x3333_3333_3333_3333, and_le_r (A n / 4) 0x3333_3333_3333_3333) }
-
-pub overflow_add-d : goal.overflow_add-d
-overflow_add-d c = let n = c.args.n in record { fits = omega (arith, and_le_r (B n + B n / 16) 0x0f0f_0f0f_0f0f_0f0f) }
-
-pub overflow_add-e : goal.overflow_add-e
-overflow_add-e c = let n = c.args.n in record { fits = omega (arith, and_le_r (C n + C n / 256) 0x00ff_00ff_00ff_00ff) }
 
 pub returns : goal.returns
 returns c =
