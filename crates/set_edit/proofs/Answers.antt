@@ -84,16 +84,16 @@ module _ {s : List ℕ} {i N a w : ℕ} (z : Inside s i N a w) (set : Bool) {v :
   -- the word stays as it is exactly if the bit is so already
   pub bit_so : v ≡ w → on N s 0 i ≡ cond set 1 0
   unfolding on
-  bit_so q = sym (ap (λ (x : ℕ). bit x (i % 64)) z.word-is) ∙ kept_change set w (i % 64) (omega arith) (sym e ∙ q)
+  bit_so q = sym (ap (λ (x : ℕ). bit x (i % 64)) z.word_is) ∙ kept_change set w (i % 64) (omega arith) (sym e ∙ q)
 
   pub bit_not_so : w < 2 ^ 64 → v ≢ w → on N s 0 i ≢ cond set 1 0
   unfolding on
-  bit_not_so small n q = n (e ∙ change_kept set w (i % 64) (omega arith) small (ap (λ (x : ℕ). bit x (i % 64)) z.word-is ∙ q))
+  bit_not_so small n q = n (e ∙ change_kept set w (i % 64) (omega arith) small (ap (λ (x : ℕ). bit x (i % 64)) z.word_is ∙ q))
 
   -- it is written to layer 0
   pub id_edited : {t : List ℕ} → t ≡ set_at s (a + i / 64) v → Edited set s N i 0 t v
   unfolding anc
-  id_edited t-is = edited z.placed z.start_is refl set (e ∙ ap (λ (x : ℕ). change set x (i % 64)) z.word-is) t-is
+  id_edited t-is = edited z.placed z.start_is refl set (e ∙ ap (λ (x : ℕ). change set x (i % 64)) z.word_is) t-is
 
   pub id-begun : {t : List ℕ} → t ≡ set_at s (a + i / 64) v → Begun set s N i 1 t
   id-begun t-is = first set z.placed (id_edited t-is)

@@ -33,7 +33,7 @@ module _ {s : List ℕ} {N i k : ℕ} (p : Placed s N i k) {a q : ℕ} (a_is : a
       record {
         memory = m;
         answer = w-is ∙ sym (ap (λ (x : List ℕ). word N x k (anc i k / 64)) m
-            ∙ word-put-same N s p.store.long k (anc i k / 64) (change on (word N s k (anc i k / 64)) (anc i k % 64)) p.layer (spot p).in-layer);
+            ∙ word-put-same N s p.store.long k (anc i k / 64) (change on (word N s k (anc i k / 64)) (anc i k % 64)) p.layer (spot p).in_layer);
       }
 
 -- ---- a run of steps: the m lowest layers are edited

@@ -1,6 +1,7 @@
 // Changing the set over one lent store: the Rust's lib.rs, `BitSet`. Every call tests the store itself and refuses by number. A private step
 // answers how many layers it wrote.
 #![tactic(auto)]
+
 ghost use Rattle.std.specs.Prelude.{true, false, List, ◌≡◌, ℕ, suc, ◌+◌, ◌/◌, ◌≤◌, ◌<◌, length, set};
 ghost use Rattle.util.specs.Outcome.{Settled};
 ghost use Rattle.store.specs.Answer.{asked_paper, did_paper};

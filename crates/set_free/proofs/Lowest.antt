@@ -29,7 +29,7 @@ module _ {N : ℕ} {s : List ℕ} (z : StoreOf N s) {a : ℕ} (e : a ≡ start_f
   pub lent_small : {first : ℕ} → first ≤ max_cap → Small (take (length s - a) (drop a s)) N first
   lent_small h =
       let l = lent0 z e in
-      record { most = z.most; first_in_lem = h; long = omega (arith, ap length l.words, l.long, room_closed N 1, z.most) }
+      record { most = z.most; first_in = h; long = omega (arith, ap length l.words, l.long, room_closed N 1, z.most) }
 
   pub lowest_is : Words64 s → {r : ℕ} → r ≡ first_or N (free_in (take (length s - a) (drop a s)) N search_start) → r ≡ lowest_of s
   unfolding lowest_of free_from on

@@ -37,5 +37,5 @@ free_in ws n first = places (free_at ws) first (n - first)
 -- small enough that no sum wraps
 pub record Small (ws : List ℕ) (n first : ℕ) : Type 0 where
   pub most : n ≤ max_cap
-  pub first_in_lem : first ≤ max_cap
+  pub first_in : first ≤ max_cap
   pub long : length ws ≤ max_cap

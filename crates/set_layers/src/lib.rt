@@ -1,5 +1,6 @@
 // Reading the layers of a store: the Rust's `get_from_layer` and its three layer slices.
 #![tactic(auto)]
+
 ghost use Rattle.std.specs.Prelude.{[], ◌∷◌, ◌≡◌, ◌≤◌, ◌<◌};
 ghost use Rattle.util.specs.Outcome.{Settled};
 ghost use Rattle.store.specs.Answer.{read_paper};

@@ -39,10 +39,10 @@ module _ {s : List ℕ} {N i k : ℕ} (p : Placed s N i k) (a q : ℕ) (a_is : a
       record {
         start = a_is ∙ z.at.starts;
         index = q-is ∙ z.here;
-        inside = omega (arith, a_is, z.at.starts, q-is, z.here, z.in-layer, z.at.size, z.at.inside);
+        inside = omega (arith, a_is, z.at.starts, q-is, z.here, z.in_layer, z.at.size, z.at.inside);
       }
 
   pub word_there : get_or s (a + q) 0 ≡ word N s k (anc i k / 64)
   word_there =
       let r = ranged in
-      ap₂ (λ (x y : ℕ). get_or s (x + y) 0) r.start r.index ∙ sym (word_in N s k (anc i k / 64) (spot p).in-layer)
+      ap₂ (λ (x y : ℕ). get_or s (x + y) 0) r.start r.index ∙ sym (word_in N s k (anc i k / 64) (spot p).in_layer)

@@ -1,5 +1,6 @@
 // Where an id stands in a lent store, and whether it is a member: what every call on an id begins with.
 #![tactic(auto)]
+
 ghost use Rattle.std.specs.Prelude.{◌≡◌, ◌/◌, ltb};
 ghost use Rattle.util.specs.Outcome.{Settled};
 ghost use Rattle.store.specs.Answer.{asked_paper};

@@ -1,5 +1,6 @@
 // One set within another: the Rust's `BitSet::contains_set`, by a walk of the other store in batches.
 #![tactic(auto)]
+
 ghost use Rattle.std.specs.Prelude.{true, ◌≡◌};
 ghost use Rattle.util.specs.Outcome.{Settled};
 ghost use Rattle.store.specs.Answer.{asked_paper};

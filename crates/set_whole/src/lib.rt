@@ -1,5 +1,6 @@
 // Calls on a whole store: the Rust's `BitSet::with_capacity`, `clear`, `is_empty` and `==`.
 #![tactic(auto)]
+
 ghost use Rattle.std.specs.Prelude.{◌≡◌, length, replicate, set};
 ghost use Rattle.util.specs.Outcome.{Settled};
 ghost use Rattle.util.specs.Word.{same};

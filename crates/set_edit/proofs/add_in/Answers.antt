@@ -7,35 +7,21 @@ use Rattle.set_edit.proofs.add_in.Goals as goal
 
 pub returns-then-w-old : goal.returns-then-w-old
 returns-then-w-old c =
-    let s = c.before.before.before in
-    none_added _ _ _ (bit_so s.requires true c.with_bit-w.ensures c.if-w-old.true)
+    none_added _ _ _ (bit_so c.requires true c.with_bit-w.ensures c.if-w-old.true)
 
 pub set_id_word-requires : goal.set_id_word-requires
 set_id_word-requires c = id_inside c.requires
 
 pub returns-then-old-ne0 : goal.returns-then-old-ne0
 returns-then-old-ne0 c =
-    let m = c.before.before.before in
-    let n = m.before.before in
-    let w = n.before in
-    let s = w.before.before in
-    one-added _ _ _ (bit_not_so s.requires true w.with_bit-w.ensures (omega arith) n.if-w-old.false) (λ e. c.if-old-ne0.true (s.requires.word-is ∙ e))
-    (id-begun s.requires true w.with_bit-w.ensures m.set_id_word.ensures)
+    one-added _ _ _ (bit_not_so c.requires true c.with_bit-w.ensures (omega arith) c.if-w-old.false) (λ e. c.if-old-ne0.true (c.requires.word_is ∙ e))
+    (id-begun c.requires true c.with_bit-w.ensures c.set_id_word.ensures)
 
 pub mark-requires : goal.mark-requires
 mark-requires c =
-    let m = c.before.before.before.before in
-    let w = m.before.before.before in
-    let s = w.before.before in
-    (s.args.store-1.now, id-begun s.requires true w.with_bit-w.ensures m.set_id_word.ensures)
+    (c.args.store.now, id-begun c.requires true c.with_bit-w.ensures c.set_id_word.ensures)
 
 pub returns : goal.returns
 returns c =
-    let k = c.before.before in
-    let t = k.before.before in
-    let m = t.before.before.before in
-    let n = m.before.before in
-    let w = n.before in
-    let s = w.before.before in
-    all-added _ _ _ (bit_not_so s.requires true w.with_bit-w.ensures (omega arith) n.if-w-old.false) (sym s.requires.word-is ∙ t.if-old-ne0.false)
-    (k.mark.ensures _ (id-begun s.requires true w.with_bit-w.ensures m.set_id_word.ensures))
+    all-added _ _ _ (bit_not_so c.requires true c.with_bit-w.ensures (omega arith) c.if-w-old.false) (sym c.requires.word_is ∙ c.if-old-ne0.false)
+    (c.mark.ensures _ (id-begun c.requires true c.with_bit-w.ensures c.set_id_word.ensures))

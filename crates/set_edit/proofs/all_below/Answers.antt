@@ -1,5 +1,4 @@
 use mathlib.Core.Path.{refl}
-use Prim.Native.Nat.{◌-◌}
 use native.Mathlib.Omega.{arith}
 use Rattle.set_edit.proofs.Answers.{below_next, below_all}
 use Rattle.set_edit.proofs.all_below.Goals as goal
@@ -9,12 +8,10 @@ loop-i-init c = (omega arith, refl)
 
 pub loop-i-preserved : goal.loop-i-preserved
 loop-i-preserved c =
-    let l = c.before.before in
-    let a = l.args in
-    (omega arith, below_next a.n a.ids.now l.loop-i.i l.loop-i.all _ (omega arith) refl l.loop-i.invariant.1)
+    let a = c.args in
+    (omega arith, below_next a.n a.ids.now c.loop-i.i c.loop-i.all _ (omega arith) refl c.loop-i.invariant.1)
 
 pub returns : goal.returns
 returns c =
-    let l = c.before in
-    let a = l.args in
-    below_all a.n a.ids.now l.loop-i.i l.loop-i.all (omega arith) l.loop-i.invariant.1
+    let a = c.args in
+    below_all a.n a.ids.now c.loop-i.i c.loop-i.all (omega arith) c.loop-i.invariant.1

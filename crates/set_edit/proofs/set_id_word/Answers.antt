@@ -8,8 +8,5 @@ use Rattle.set_edit.proofs.set_id_word.Goals as goal
 
 pub returns : goal.returns
 returns c =
-    let m = c.before.before in
-    let o = m.before in
-    let s = o.before.before.before in
-    part_set s.args.a (length s.args.store-1.now) o.offset.result s.args.w s.args.store-1.now _ (omega (arith, o.offset.ensures)) (omega arith) m.set_word.ensures
-    ∙ ap (λ (x : ℕ). set s.args.store-1.now (s.args.a + x) s.args.w) o.offset.ensures
+    part_set c.args.a (length c.args.store.now) c.offset.result c.args.w c.args.store.now _ (omega (arith, c.offset.ensures)) (omega arith) c.set_word.ensures
+    ∙ ap (λ (x : ℕ). set c.args.store.now (c.args.a + x) c.args.w) c.offset.ensures

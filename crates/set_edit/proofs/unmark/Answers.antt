@@ -1,6 +1,5 @@
 use mathlib.Core.Bool.{false}
 use mathlib.Core.Path.{refl}
-use Prim.Native.Nat.{◌-◌}
 use native.Mathlib.Numerals.{add-one}
 use native.Mathlib.Omega.{arith}
 use borrow.Author.Rules.{rules}
@@ -13,39 +12,29 @@ loop-k-init c = (omega arith, c.top-t.ensures, refl, λ s g. g)
 
 pub edit-requires : goal.edit-requires
 edit-requires c =
-    let l = c.before.before in
-    let p = l.requires in
-    placed false (l.loop-k.invariant.3 p.0 p.1).begun (omega (arith, l.loop-k.invariant.1))
+    let p = c.requires in
+    placed false (c.loop-k.invariant.3 p.0 p.1).begun (omega (arith, c.loop-k.invariant.1))
 
 pub overflow_add-result : goal.overflow_add-result
 overflow_add-result c =
-    let l = c.before.before.before.before.before.before in
-    omega (arith, l.loop-k.invariant.1, top_high l.args.n)
+    omega (arith, c.loop-k.invariant.1, top_high c.args.n)
 
 pub returns-then-edit-ne0 : goal.returns-then-edit-ne0
 returns-then-edit-ne0 c =
     λ s g.
-    (let e = c.before.before.before in
-    let l = e.before.before.before in
-    rw (add-one l.loop-k.k) (climb_ends (l.loop-k.invariant.3 s g) (omega (arith, l.loop-k.invariant.1)) e.edit.ensures c.if-edit-ne0.true))
+    (rw (add-one c.loop-k.k) (climb_ends (c.loop-k.invariant.3 s g) (omega (arith, c.loop-k.invariant.1)) c.edit.ensures c.if-edit-ne0.true))
 
 pub overflow_add-k : goal.overflow_add-k
 overflow_add-k c =
-    let l = c.before.before.before.before.before.before in
-    omega (arith, l.loop-k.invariant.1, top_high l.args.n)
-
-pub loop-k-smaller : goal.loop-k-smaller
-loop-k-smaller c = omega arith
+    omega (arith, c.loop-k.invariant.1, top_high c.args.n)
 
 pub loop-k-preserved : goal.loop-k-preserved
-loop-k-preserved c =
-    let e = c.before.before.before in
-    let l = e.before.before.before in (
-      omega arith,
-      l.loop-k.invariant.1,
-      search rules,
-      λ s g. rw (add-one l.loop-k.k) (climb-more (l.loop-k.invariant.3 s g) (omega (arith, l.loop-k.invariant.1)) e.edit.ensures c.if-edit-ne0.false),
-    )
+loop-k-preserved c = (
+  omega arith,
+  c.loop-k.invariant.1,
+  search rules,
+  λ s g. rw (add-one c.loop-k.k) (climb-more (c.loop-k.invariant.3 s g) (omega (arith, c.loop-k.invariant.1)) c.edit.ensures c.if-edit-ne0.false),
+)
 
 pub returns : goal.returns
-returns c = λ s g. (let l = c.before in climb-top_end (l.loop-k.invariant.3 s g) (omega (arith, l.loop-k.invariant.1)))
+returns c = λ s g. (climb-top_end (c.loop-k.invariant.3 s g) (omega (arith, c.loop-k.invariant.1)))

@@ -1,23 +1,19 @@
 -- `first_free` meets its contract.
 use native.Mathlib.Omega.{arith}
-use Rattle.store.specs.Layout.{StoreOf}
 use Rattle.store.proofs.Ends.{some_store, no_store}
 use Rattle.set_free.proofs.Lowest.{free_2, free_at_lem, free_12}
 use Rattle.set_free.proofs.first_free.Goals as goal
 
 pub returns-then-n-eq0 : goal.returns-then-n-eq0
-returns-then-n-eq0 c = let y = c.before in free_2 _ (no_store _ y.capacity-n.ensures c.if-n-eq0.true)
+returns-then-n-eq0 c = free_2 _ (no_store _ c.capacity-n.ensures c.if-n-eq0.true)
 
 pub returns-then-id-n : goal.returns-then-id-n
 returns-then-id-n c =
     -- past the test the slice is a store
-    let store_here : StoreOf c.capacity-n.result c.args.store.now =
-        some_store _ c.capacity-n.ensures c.if-n-eq0.false in
-    let l = c.before in free_at_lem store_here l.lowest_free-id.ensures c.if-id-n.true
+    let store_here = some_store _ c.capacity-n.ensures c.if-n-eq0.false in
+    free_at_lem store_here c.lowest_free-id.ensures c.if-id-n.true
 
 pub returns : goal.returns
 returns c =
-    -- past the test the slice is a store
-    let store_here : StoreOf c.capacity-n.result c.args.store.now =
-        some_store _ c.capacity-n.ensures c.if-n-eq0.false in
-    let l = c.before in free_12 store_here l.lowest_free-id.ensures (omega (arith, c.if-id-n.false))
+    let store_here = some_store _ c.capacity-n.ensures c.if-n-eq0.false in
+    free_12 store_here c.lowest_free-id.ensures (omega (arith, c.if-id-n.false))

@@ -5,4 +5,4 @@ use Rattle.set_free.proofs.four.Goals as goal
 pub returns : goal.returns
 returns c =
     let a = c.args in
-    full-four a.layer.now a.i (λ i. (c.shared_slice_known-4-1.given i).fits)
+    full-four a.layer.now a.i (λ i. (c.type_inv.layer i).fits)

@@ -1,50 +1,36 @@
 -- `lowest_free` meets its contract: layer 0 is lent to the search.
 use native.Mathlib.Omega.{arith}
-use Rattle.store.specs.Layout.{StoreOf}
 use Rattle.store.proofs.Ends.{some_store, no_store, lent0}
 use Rattle.set_free.proofs.Lowest.{lent_small, lowest_is, lowest_0}
 use Rattle.set_free.proofs.lowest_free.Goals as goal
 
 pub returns-then-n-eq0 : goal.returns-then-n-eq0
 returns-then-n-eq0 c =
-    let y = c.before in
-    let s = y.args.store.now in
-    lowest_0 s (no_store s y.capacity-n.ensures c.if-n-eq0.true)
+    let s = c.args.store.now in
+    lowest_0 s (no_store s c.capacity-n.ensures c.if-n-eq0.true)
 
 pub offset_bounds-store-a : goal.offset_bounds-store-a
 offset_bounds-store-a c =
     -- past the test the slice is a store
-    let store_here : StoreOf c.capacity-n.result c.args.store.now =
-        some_store c.args.store.now c.capacity-n.ensures c.if-n-eq0.false in
+    let store_here = some_store c.args.store.now c.capacity-n.ensures c.if-n-eq0.false in
     omega (arith, (lent0 store_here c.start-a.ensures).inside)
 
 pub slice_bounds-search-count : goal.slice_bounds-search-count
 slice_bounds-search-count c =
-    -- past the test the slice is a store
-    let store_here : StoreOf c.capacity-n.result c.args.store.now =
-        some_store c.args.store.now c.capacity-n.ensures c.if-n-eq0.false in
+    let store_here = some_store c.args.store.now c.capacity-n.ensures c.if-n-eq0.false in
     (lent0 store_here c.start-a.ensures).inside
 
 pub slice_bounds-search-start : goal.slice_bounds-search-start
 slice_bounds-search-start c =
-    -- past the test the slice is a store
-    let store_here : StoreOf c.capacity-n.result c.args.store.now =
-        some_store c.args.store.now c.capacity-n.ensures c.if-n-eq0.false in
+    let store_here = some_store c.args.store.now c.capacity-n.ensures c.if-n-eq0.false in
     omega (arith, (lent0 store_here c.start-a.ensures).inside)
 
 pub search-requires : goal.search-requires
 search-requires c =
-    -- past the test the slice is a store
-    let store_here : StoreOf c.capacity-n.result c.args.store.now =
-        some_store c.args.store.now c.capacity-n.ensures c.if-n-eq0.false in
-    let a = c.before in
-    lent_small store_here a.start-a.ensures (omega arith)
+    let store_here = some_store c.args.store.now c.capacity-n.ensures c.if-n-eq0.false in
+    lent_small store_here c.start-a.ensures (omega arith)
 
 pub returns : goal.returns
 returns c =
-    -- past the test the slice is a store
-    let store_here : StoreOf c.capacity-n.result c.args.store.now =
-        some_store c.args.store.now c.capacity-n.ensures c.if-n-eq0.false in
-    let a = c.before.before in
-    let d = a.before in
-    lowest_is store_here a.start-a.ensures (λ i. (d.shared_slice_known-1.given i).fits) c.search.ensures
+    let store_here = some_store c.args.store.now c.capacity-n.ensures c.if-n-eq0.false in
+    lowest_is store_here c.start-a.ensures (λ i. (c.type_inv.store i).fits) c.search.ensures

@@ -8,15 +8,9 @@ use Rattle.set_layers.proofs.handed.Goals as goal
 
 pub returns-then-n-eq0 : goal.returns-then-n-eq0
 returns-then-n-eq0 c =
-    let t = c.before in
-    let a = t.args in
-    part_none a.store _ a.k (no_store a.store.now t.capacity-n.ensures t.if-n-eq0.true) refl refl
+    let a = c.args in
+    part_none a.store _ a.k (no_store a.store.now c.capacity-n.ensures c.if-n-eq0.true) refl refl
 
 pub part-requires : goal.part-requires
 part-requires c =
-    let y = c.before in
-    let s = y.before.before in
-    (some_store s.args.store.now y.capacity-n.ensures c.if-n-eq0.false, omega (arith, s.requires, top_low y.capacity-n.result))
-
-pub returns : goal.returns
-returns c = c.part.ensures
+    (some_store c.args.store.now c.capacity-n.ensures c.if-n-eq0.false, omega (arith, top_low c.capacity-n.result))

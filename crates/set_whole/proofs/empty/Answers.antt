@@ -7,6 +7,4 @@ use Rattle.set_whole.proofs.empty.Goals as goal
 
 pub returns : goal.returns
 returns c =
-    let p = c.before.before in
-    let z = p.before.before.before.before in
-    p.name.ensures ∙ ap (λ (l : List ℕ). set l 0 z.args.n) z.zero.ensures
+    c.name.ensures ∙ ap (λ (l : List ℕ). set l 0 c.args.n) c.zero.ensures

@@ -5,13 +5,10 @@ use Rattle.set_whole.proofs.is_empty.Goals as goal
 
 pub returns-then-n-eq0 : goal.returns-then-n-eq0
 returns-then-n-eq0 c =
-    let y = c.before in
-    let s = y.args.store.now in
-    is_empty_2 s (no_store s y.capacity-n.ensures c.if-n-eq0.true)
+    let s = c.args.store.now in
+    is_empty_2 s (no_store s c.capacity-n.ensures c.if-n-eq0.true)
 
 pub returns : goal.returns
 returns c =
-    let n = c.before in
-    let y = n.before in
-    let s = y.args.store.now in
-    is_empty_is (some_store s y.capacity-n.ensures n.if-n-eq0.false) _ c.top_word.ensures
+    let s = c.args.store.now in
+    is_empty_is (some_store s c.capacity-n.ensures c.if-n-eq0.false) _ c.top_word.ensures
