@@ -1,5 +1,6 @@
 // Summaries rebuilt from layer 0, and the soundness check: layer by layer from layer 1 up, by one word over 64 words below it.
 #![tactic(auto)]
+
 ghost use Rattle.std.specs.Prelude.{◌++◌, ◌≡◌, drop, take};
 ghost use Rattle.util.specs.Outcome.{Settled};
 ghost use Rattle.util.specs.Word.{same};

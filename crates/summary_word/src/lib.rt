@@ -1,5 +1,6 @@
 // One word of a summary: a bit for each of 64 words below it.
 #![tactic(auto)]
+
 ghost use Rattle.std.specs.Prelude.{◌≡◌, ◌+◌, ◌≤◌, ◌<◌, length, take, drop};
 ghost use Rattle.store.specs.Build.{flag, flags};
 

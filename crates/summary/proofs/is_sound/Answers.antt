@@ -6,20 +6,19 @@ use Rattle.summary.proofs.is_sound.Goals as goal
 
 pub returns-then-n-eq0 : goal.returns-then-n-eq0
 returns-then-n-eq0 c =
-    let y = c.before in
-    let s = y.args.store.now in
-    is_sound_2 s (no_store s y.capacity-n.ensures c.if-n-eq0.true)
+    let s = c.args.store.now in
+    is_sound_2 s (no_store s c.capacity-n.ensures c.if-n-eq0.true)
 
 pub sound-requires : goal.sound-requires
 sound-requires c =
     -- past the test the slice is a store
     let store_here : StoreOf c.capacity-n.result c.args.store.now =
-        some_store c.args.store.now c.capacity-n.ensures c.if-n-eq0.false in
+    some_store c.args.store.now c.capacity-n.ensures c.if-n-eq0.false in
     store_here
 
 pub returns : goal.returns
 returns c =
     -- past the test the slice is a store
     let store_here : StoreOf c.capacity-n.result c.args.store.now =
-        some_store c.args.store.now c.capacity-n.ensures c.if-n-eq0.false in
+    some_store c.args.store.now c.capacity-n.ensures c.if-n-eq0.false in
     is_sound_is store_here c.sound.result c.sound.ensures

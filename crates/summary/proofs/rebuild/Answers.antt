@@ -6,20 +6,19 @@ use Rattle.summary.proofs.rebuild.Goals as goal
 
 pub returns-then-n-eq0 : goal.returns-then-n-eq0
 returns-then-n-eq0 c =
-    let y = c.before in
-    let s = y.args.store-1.now in
-    rebuild_2 s (no_store s y.capacity-n.ensures c.if-n-eq0.true)
+    let s = c.args.store.now in
+    rebuild_2 s (no_store s c.capacity-n.ensures c.if-n-eq0.true)
 
 pub raise-requires : goal.raise-requires
 raise-requires c =
     -- past the test the slice is a store
-    let store_here : StoreOf c.capacity-n.result c.args.store-1.now =
-        some_store c.args.store-1.now c.capacity-n.ensures c.if-n-eq0.false in
+    let store_here : StoreOf c.capacity-n.result c.args.store.now =
+    some_store c.args.store.now c.capacity-n.ensures c.if-n-eq0.false in
     store_here
 
 pub returns : goal.returns
 returns c =
     -- past the test the slice is a store
-    let store_here : StoreOf c.capacity-n.result c.args.store-1.now =
-        some_store c.args.store-1.now c.capacity-n.ensures c.if-n-eq0.false in
+    let store_here : StoreOf c.capacity-n.result c.args.store.now =
+    some_store c.args.store.now c.capacity-n.ensures c.if-n-eq0.false in
     rebuild_done store_here c.raise.ensures

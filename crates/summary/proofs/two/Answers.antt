@@ -9,9 +9,8 @@ pub overflow_add-k : goal.overflow_add-k
 overflow_add-k c = omega (arith, c.requires.above, top_high c.args.n)
 
 pub overflow_sub-result : goal.overflow_sub-result
-overflow_sub-result c = let s = c.before.before in (paired s.requires c.start-a.ensures c.start-m.ensures refl).0
+overflow_sub-result c = (paired c.requires c.start-a.ensures c.start-m.ensures refl).0
 
 pub returns : goal.returns
 returns c =
-    let m = c.before in
-    (paired m.requires m.start-a.ensures m.start-m.ensures c.end.ensures).1
+    (paired c.requires c.start-a.ensures c.start-m.ensures c.end.ensures).1

@@ -1,7 +1,6 @@
-use mathlib.Core.Path.{◌≡◌, ap, ◌∙◌}
-use Prim.Native.Nat.{ℕ, ◌+◌, ◌-◌, ◌^◌, ◌<◌}
+use Prim.Native.Nat.{◌+◌, ◌-◌, ◌^◌, ◌<◌}
 use native.Mathlib.Omega.{arith}
-use Rattle.summary_word.proofs.Gathered.{spanned, spanned_none, spanned_turn, spanned_room}
+use Rattle.summary_word.proofs.Gathered.{spanned_none, spanned_turn, spanned_room}
 use Rattle.summary_word.proofs.few.Goals as goal
 
 pub loop-i-init : goal.loop-i-init
@@ -11,16 +10,16 @@ pub overflow_mul-x : goal.overflow_mul-x
 overflow_mul-x c =
     -- one bit more fits
     let small : c.loop-i.x < 2 ^ 56 =
-        let a = c.args in
-        omega (arith, c.loop-i.invariant.1, spanned_room a.part.now (a.b + c.loop-i.i) (a.n - c.loop-i.i) (omega (arith, c.requires.1))) in
+    let a = c.args in
+    omega (arith, c.loop-i.invariant.1, spanned_room a.part.now (a.b + c.loop-i.i) (a.n - c.loop-i.i) (omega (arith, c.requires.1))) in
     omega (arith, small)
 
 pub overflow_add-x : goal.overflow_add-x
 overflow_add-x c =
     -- one bit more fits
     let small : c.loop-i.x < 2 ^ 56 =
-        let a = c.args in
-        omega (arith, c.loop-i.invariant.1, spanned_room a.part.now (a.b + c.loop-i.i) (a.n - c.loop-i.i) (omega (arith, c.requires.1))) in
+    let a = c.args in
+    omega (arith, c.loop-i.invariant.1, spanned_room a.part.now (a.b + c.loop-i.i) (a.n - c.loop-i.i) (omega (arith, c.requires.1))) in
     omega (arith, small, c.mark.ensures.1)
 
 pub loop-i-preserved : goal.loop-i-preserved
@@ -32,12 +31,3 @@ loop-i-preserved c =
       spanned_turn a.part.now (a.b + (h.loop-i.i - 1)) (a.b + h.loop-i.i) (a.n - h.loop-i.i) (a.n - (h.loop-i.i - 1)) (omega arith)
           (omega (arith, h.loop-i.invariant.0)) (omega (arith, h.loop-i.invariant.0, h.requires.0)) h.loop-i.invariant.1 c.mark.ensures.0,
     )
-
-pub returns : goal.returns
-returns c =
-    let h = c.before in
-    let a = h.args in
-    let z : h.loop-i.i ≡ 0 = omega (arith, c.loop-i-test.false) in
-    let s : a.b + h.loop-i.i ≡ a.b = omega arith in
-    let t : a.n - h.loop-i.i ≡ a.n = omega arith in
-    h.loop-i.invariant.1 ∙ ap (λ (k : ℕ). spanned a.part.now k (a.n - h.loop-i.i)) s ∙ ap (spanned a.part.now a.b) t
