@@ -13,8 +13,7 @@ use Rattle.util.specs.Outcome.{Settled, settled, settles}
 use Rattle.store.specs.Layout.{top, is_store, capacity_of, StoreOf, top_most, top_word}
 use Rattle.store.specs.Word.{layer_at, word}
 use Rattle.store.proofs.Ends.{some_store, no_store, top-word}
-use Rattle.store.proofs.Geometry.{is_store_lem, end_top, room_falls}
-use Rattle.store.proofs.Words.{word_in}
+use Rattle.store.proofs.Geometry.{is_store_lem}
 use Rattle.set_layers.specs.Calls.{layer_part}
 use Rattle.walk.specs.Calls.{step_paper, written, refused, fits, start_in, next_in}
 use Rattle.walk.specs.Steps.{refusal_of, parts}

@@ -1,5 +1,6 @@
 // The walk of one store: the Rust's iter/mod.rs, `BitIter`, as a cursor by value whose calls hand it back.
 #![tactic(auto)]
+
 ghost use Rattle.std.specs.Prelude.{true, [], ◌∷◌, ◌≡◌, ℕ, suc, ◌+◌, ◌-◌, ◌%◌, ◌<◌, get_or};
 ghost use Rattle.util.specs.Outcome.{Settled};
 ghost use Rattle.store.specs.Layout.{top, top_most};

@@ -19,7 +19,7 @@ use Rattle.walk.proofs.Answers.{started_is}
 use Rattle.walk_fill.specs.Fill.{Filled, batch_paper, batch, fill_from, fill_in, fill_of}
 use Rattle.walk_fill.specs.declared.Batch.{Batch}
 use Rattle.walk_fill.specs.declared.Stop.{Stop}
-use Rattle.walk_fill.specs.declared.Stop.TheVariants.{Full, Paused, End}
+use Rattle.walk_fill.specs.declared.Stop.TheVariants.{Full, Paused, End, Refused}
 use Rattle.walk_laws.specs.Calls.{Stopped}
 use Rattle.walk_laws.specs.Calls.Stopped.{full, paused, ended}
 use Rattle.walk_laws.proofs.Fills.{fill_moved}
@@ -116,6 +116,7 @@ module _ {t out : List ℕ} {b : ℕ} {c : Cursor} {r : Batch} (u : Turn t b c r
       go End q (ended x y) e = u.over q
       go Full q (full x) e = absurd (true≢false e)
       go Paused q (paused x) e = absurd (true≢false e)
+      go (Refused _) q x e = elim x [ ]
 
   -- a batch that is not the last hands out 64 ids, or spends its budget
   pub less_to_go : 1 ≤ b → goes_on r.stop ≡ true → to_go t r.cursor < to_go t c
@@ -128,3 +129,4 @@ module _ {t out : List ℕ} {b : ℕ} {c : Cursor} {r : Batch} (u : Turn t b c r
       go Full (full x) e = omega arith
       go Paused (paused x) e = omega arith
       go End (ended x y) e = absurd (true≢false (sym e))
+      go (Refused _) x e = elim x [ ]

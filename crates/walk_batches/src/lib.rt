@@ -1,5 +1,6 @@
 // A walk of one store in batches of 64 ids, for a caller with no cursor: where it starts, and whether it goes on after a batch.
 #![tactic(auto)]
+
 ghost use Rattle.std.specs.Prelude.{◌≡◌};
 ghost use Rattle.walk_batches.specs.Calls.{started_of};
 ghost use Rattle.walk_batches.specs.Steps.{goes_on};

@@ -1,5 +1,6 @@
 // Many members of one store in one call, for callers that keep a cursor: what that many calls of `Cursor::next` do, with the tests made once.
 #![tactic(auto)]
+
 ghost use Rattle.std.specs.Prelude.{[], ◌∷◌, ◌≡◌, ◌%◌, ◌^◌, length, set};
 ghost use Rattle.util.specs.Outcome.{Settled};
 ghost use Rattle.store.specs.Layout.{top_most};

@@ -65,6 +65,7 @@ module _ (lw : ℕ → ℕ → ℕ) (bounded : Bounded lw) (t : ℕ) where
       go Full (full x) ih = ih (omega (arith, s.1))
       go StopPaused (paused x) ih = ih (omega (arith, s.0))
       go StopEnd (ended x y) ih = refl
+      go (StopRefused _) x ih = elim x [ ]
 
   -- THE WALK. Whatever the calls, next and fill mixed, and their budgets and places: a walk that ends has handed out exactly the ids below
   -- the top word, in the definition's order, and with the start's read it has reported the definition's count.

@@ -19,7 +19,7 @@ use Rattle.walk_fill.specs.declared.Stop.TheVariants.{Full, Paused as StopPaused
 use Rattle.walk_laws.specs.Calls.{Stopped, Keeps}
 use Rattle.walk_laws.specs.Calls.Stopped.{full, paused, ended}
 use Rattle.walk_laws.specs.Walks.{Bounded, KeptBudget}
-use Rattle.walk_laws.specs.Walks.KeptBudget.{member, paused as pausedAt, ended as endedAt}
+use Rattle.walk_laws.specs.Walks.KeptBudget.{member, paused as paused_at, ended as ended_at}
 use Rattle.walk_laws.proofs.Prefixes.{next_fine}
 use Rattle.walk_laws.proofs.Rest.{rest, cost, MovesOn, gone, MovedOn, moved_next}
 use Rattle.walk_laws.proofs.Taken.{Wf}
@@ -31,42 +31,35 @@ module _ (lw : ℕ → ℕ → ℕ) (t : ℕ) where
       → KeptBudget b (by_kind t c f k).answer (by_kind t c f k).reads
   kept_by b c f g gives = member {r = 0} (omega arith)
   kept_by b c f g (reads j) = g j
-  kept_by b c f g done = endedAt {r = 0} (omega arith)
+  kept_by b c f g done = ended_at {r = 0} (omega arith)
 
   kept_more : (b r : ℕ) (o : Next) → KeptBudget b o r → KeptBudget (suc b) o (1 + r)
   kept_more b r o (member h) = member {r = 1 + r} (omega arith)
-  kept_more b r o pausedAt = subst (KeptBudget (suc b) Paused) (sym (one-add b)) pausedAt
-  kept_more b r o (endedAt h) = endedAt {r = 1 + r} (omega arith)
+  kept_more b r o paused_at = subst (KeptBudget (suc b) Paused) (sym (one-add b)) paused_at
+  kept_more b r o (ended_at h) = ended_at {r = 1 + r} (omega arith)
 
   -- A CALL never reads past its budget, a paused one has spent it exactly, and none refuses.
   pub next_kept : (b : ℕ) (c : Cursor) → KeptBudget b (next lw t b c).answer (next lw t b c).reads
   unfolding next
-  next_kept zero c = kept_by 0 c (λ j. before c) (λ j. pausedAt) (kind t c)
+  next_kept zero c = kept_by 0 c (λ j. before c) (λ j. paused_at) (kind t c)
   next_kept (suc b) c = kept_by (suc b) c (λ j. more 1 (next lw t b (descend lw t j c)))
       (λ j. let a = next lw t b (descend lw t j c) in kept_more b a.reads a.answer (next_kept b (descend lw t j c))) (kind t c)
 
 -- ---- one fill
-
-end_full : ◌≡◌ {A = Stop} Full StopEnd → ⊥
-end_full e = let z : ◌≡◌ {A = ℕ} 0 1 = cc in omega arith
-
-end_paused : ◌≡◌ {A = Stop} StopPaused StopEnd → ⊥
-end_paused e = let z : ◌≡◌ {A = ℕ} 0 1 = cc in omega arith
-
-end_refused : (n : ℕ) → ◌≡◌ {A = Stop} (StopRefused n) StopEnd → ⊥
-end_refused n e = let z : ◌≡◌ {A = ℕ} 0 1 = cc in omega arith
 
 -- a member in r reads before a fill of the other places
 stopped_more : (b d m r : ℕ) → r ≤ b → d ≡ b - r → (e : Stop) (n q : ℕ) → Stopped d m e n q → Stopped b (suc m) e (suc n) (r + q)
 stopped_more b d m r h is Full n q (full g) = full {r = r + q} (omega arith)
 stopped_more b d m r h is StopPaused n q (paused g) = let z : b ≡ r + d = omega arith in subst (Stopped b (suc m) StopPaused (suc n)) z (paused {n = suc n} (omega arith))
 stopped_more b d m r h is StopEnd n q (ended g k) = ended {n = suc n} {r = r + q} (omega arith) (omega arith)
+stopped_more b d m r h is (StopRefused _) n q g = elim g [ ]
 
 stopped_by : (b m : ℕ) (o : Next) (r : ℕ) → KeptBudget b o r → (c : Cursor) (on : Cursor → Filled) → Keeps (b - r) m (on c)
     → Keeps b (suc m) (go_on o r c on)
 stopped_by b m (Member v) r (member h) c on s = stopped_more b (b - r) m r h refl (on c).stop (length (on c).ids) (on c).reads s
-stopped_by b m Paused r pausedAt c on s = paused {n = 0} (omega arith)
-stopped_by b m End r (endedAt h) c on s = ended {n = 0} (omega arith) h
+stopped_by b m Paused r paused_at c on s = paused {n = 0} (omega arith)
+stopped_by b m End r (ended_at h) c on s = ended {n = 0} (omega arith) h
+stopped_by b m (Refused _) r k c on s = elim k [ ]
 
 module _ (lw : ℕ → ℕ → ℕ) (t : ℕ) where
   -- What the cursor had to hand out and to read is what this fill did and what its cursor has; at the end nothing is left.
@@ -101,9 +94,9 @@ module _ (lw : ℕ → ℕ → ℕ) (bounded : Bounded lw) (t : ℕ) where
         kept = k;
         over = later.over;
       }
-      go Paused q k = record { moves = record { ids = ids Paused q; count = mv.moves.count }; wf = mv.wf; fine = fine; kept = k; over = λ e. absurd (end_paused e) }
+      go Paused q k = record { moves = record { ids = ids Paused q; count = mv.moves.count }; wf = mv.wf; fine = fine; kept = k; over = λ e. cc }
       go End q k = record { moves = record { ids = ids End q; count = mv.moves.count }; wf = mv.wf; fine = fine; kept = k; over = λ e. mv.ended q }
-      go (Refused n) q k = record { moves = record { ids = ids (Refused n) q; count = mv.moves.count }; wf = mv.wf; fine = fine; kept = k; over = λ e. absurd (end_refused n e) }
+      go (Refused n) q k = record { moves = record { ids = ids (Refused n) q; count = mv.moves.count }; wf = mv.wf; fine = fine; kept = k; over = λ e. cc }
 
   -- ONE FILL moves what is left to hand out and to read by its ids and its reads, never reads past its budget, and none refuses.
   pub fill_moved : (m b : ℕ) (c : Cursor) → Wf t c → FillMoved lw t b m c (fill_from lw t m b c)
@@ -113,7 +106,7 @@ module _ (lw : ℕ → ℕ → ℕ) (bounded : Bounded lw) (t : ℕ) where
     wf = wf;
     fine = λ h. h;
     kept = full {r = 0} (omega arith);
-    over = λ e. absurd (end_full e);
+    over = λ e. cc;
   }
   fill_moved (suc m) b c wf =
       let a = next lw t b c in

@@ -14,7 +14,7 @@ use lib.ListN.{get_or}
 use lib.Seq.{get_or-set_same, get_or-set_other}
 use Rattle.util.specs.Word.{bits}
 use Rattle.util.proofs.Places.{bits_zero, bits_lowest, lowest}
-use Rattle.walk.specs.Walk.{low_layer, kind_of, kind, prefix_at, place_at, cleared, less, handed, paused, ended, more, by_kind, start_at, descend, next}
+use Rattle.walk.specs.Walk.{low_layer, kind_of, kind, prefix_at, place_at, cleared, less, handed, paused, more, by_kind, start_at, descend, next}
 use Rattle.walk.specs.Walk.Kind.{reads, done}
 use Rattle.walk.specs.declared.Cursor.{Cursor}
 use Rattle.walk.specs.declared.Next.{Next}
@@ -145,12 +145,6 @@ module _ (lw : ℕ → ℕ → ℕ) (t : ℕ) where
 
 -- ---- one call
 
-end_member : (v : ℕ) → ◌≡◌ {A = Next} (Member v) End → ⊥
-end_member v e = let z : ◌≡◌ {A = ℕ} 0 1 = cc in omega arith
-
-end_paused : ◌≡◌ {A = Next} Paused End → ⊥
-end_paused e = let z : ◌≡◌ {A = ℕ} 0 1 = cc in omega arith
-
 -- what an answer hands out
 abbrev pub gone : Next → List ℕ
 gone (Member v) = v ∷ []
@@ -189,13 +183,13 @@ module _ (lw : ℕ → ℕ → ℕ) (t : ℕ) where
           record { moves = moved_still c; wf = wf; ended = λ _. (rest_empty lw t c (suc t) z, cost_empty lw t c (suc t) z) }
 
       go : (n : ℕ) → Low c.masks 0 (suc t) n → MovedOn c (by_kind t c f (kind_of t n))
-      go zero l = record { moves = hand_moves lw t c wf (l.found (omega arith)); wf = handed_wf t c wf; ended = λ e. absurd (end_member (place_at t c 0) e) }
+      go zero l = record { moves = hand_moves lw t c wf (l.found (omega arith)); wf = handed_wf t c wf; ended = λ e. cc }
       go (suc j) l = up j l (ltb j t) refl
 
 module _ (lw : ℕ → ℕ → ℕ) (bounded : (k i : ℕ) → lw k i < 2 ^ 64) (t : ℕ) where
   pub moved_next : (b : ℕ) (c : Cursor) → Wf t c → MovedOn lw t c (next lw t b c)
   unfolding next
-  moved_next zero c wf = moved_by_lem lw t c wf (λ j. paused c) (λ j h m. record { moves = moved_still lw t c; wf = wf; ended = λ e. absurd (end_paused e) })
+  moved_next zero c wf = moved_by_lem lw t c wf (λ j. paused c) (λ j h m. record { moves = moved_still lw t c; wf = wf; ended = λ e. cc })
   moved_next (suc b) c wf = moved_by_lem lw t c wf (λ j. more 1 (next lw t b (descend lw t j c)))
       (λ j h m. moved_more lw t c (descend lw t j c) (next lw t b (descend lw t j c)) m
       (moved_next b (descend lw t j c) (taken_wf t c j (place_at t c (suc j)) (lw j (place_at t c (suc j))) wf h (bounded j (place_at t c (suc j))))))

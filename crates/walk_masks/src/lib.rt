@@ -1,6 +1,7 @@
 // The masks and prefixes of a cursor as arrays by value: what its steps ask of them and leave in them, which numbers prefixes may be, and
 // what a walk refuses.
 #![tactic(auto)]
+
 ghost use Rattle.std.specs.Prelude.{◌&&◌, [], ◌∷◌, ◌≡◌, suc, ◌+◌, ◌*◌, ◌%◌, ◌<◌, eqb, ltb, get_or, set};
 ghost use Rattle.std.specs.Int.Count.{count_trailing_zeros};
 ghost use Rattle.store.specs.Layout.{top, top_most};

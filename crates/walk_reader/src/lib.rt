@@ -1,5 +1,6 @@
 // The walk of one store as the Rust's `BitIter`: a reader that holds the lent store beside its cursor.
 #![tactic(auto)]
+
 ghost use Rattle.std.specs.Prelude.{◌≡◌};
 ghost use Rattle.walk.specs.Calls.{next_in};
 ghost use Rattle.walk_batches.specs.Calls.{started_of};

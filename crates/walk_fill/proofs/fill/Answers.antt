@@ -1,11 +1,10 @@
--- `fill` meets its contract.
+-- `fill` meets its contract: past the refusals the slice is a store and the prefixes fit.
 use Prim.Native.Nat.{ℕ}
 use Rattle.store.proofs.TopLayer.{top_is}
-use mathlib.Core.Bool.{true}
-use mathlib.Core.Path.{◌≡◌, subst}
+use mathlib.Core.Path.{subst}
 use lib.ListN.{length}
-use Rattle.store.specs.Layout.{StoreOf, top}
-use Rattle.walk.specs.Calls.{fits, Fine}
+use Rattle.store.specs.Layout.{top}
+use Rattle.walk.specs.Calls.{Fine}
 use Rattle.walk.proofs.Answers.{was_taken}
 use Rattle.walk.proofs.Cursors.{fine_of}
 use Rattle.walk_fill.proofs.Fills.{fill_refused, fill_lent, fill_answered}
@@ -13,39 +12,20 @@ use Rattle.walk_fill.proofs.fill.Goals as goal
 
 pub returns-then-no-ne0 : goal.returns-then-no-ne0
 returns-then-no-ne0 c =
-    let r = c.before.before in
-    let k = r.before in
-    let a = k.args in
-    fill_refused a.store.now a.c a.budget a.out-1.now k.capacity-n.ensures r.refusal-no.ensures c.if-no-ne0.true c.made.ensures
+    let a = c.args in
+    fill_refused a.store.now a.c a.budget a.out.now c.capacity-n.ensures c.refusal-no.ensures c.if-no-ne0.true c.made.ensures
 
 pub fill_in-requires : goal.fill_in-requires
 fill_in-requires c =
-    -- past the refusals the slice is a store and the prefixes fit
-    let taken_here : let k = c.before.before in StoreOf k.capacity-n.result k.args.store.now × (fits (top k.capacity-n.result) k.args.c ≡ true) =
-        let r = c.before in
-        let k = r.before in
-        let a = k.args in
-        was_taken a.store.now a.c k.capacity-n.ensures r.refusal-no.ensures c.if-no-ne0.false in
-    let e = c.before.before.before.before in
-    let k = e.before.before in
-    let c₀ = k.args.c in
-    let n = k.capacity-n.result in
-    subst (λ (t : ℕ). Fine t c₀.prefix) (top_is n) (fine_of (top n) c₀.prefix (taken_here).1)
+    let a = c.args in
+    let n = c.capacity-n.result in
+    let h = was_taken a.store.now a.c c.capacity-n.ensures c.refusal-no.ensures c.if-no-ne0.false in
+    subst (λ (t : ℕ). Fine t a.c.prefix) (top_is n) (fine_of (top n) a.c.prefix h.1)
 
 pub returns : goal.returns
 returns c =
-    -- past the refusals the slice is a store and the prefixes fit
-    let taken_here : let k = c.before.before in StoreOf k.capacity-n.result k.args.store.now × (fits (top k.capacity-n.result) k.args.c ≡ true) =
-        let r = c.before in
-        let k = r.before in
-        let a = k.args in
-        was_taken a.store.now a.c k.capacity-n.ensures r.refusal-no.ensures c.if-no-ne0.false in
-    let f = c.before.before in
-    let l0 = f.before.before in
-    let l1 = l0.before in
-    let l2 = l1.before in
-    let h = taken_here in
-    let a = l2.args in
-    fill_answered a.out-1.now
-    (fill_lent h.0 a.c l2.layer2_as_slice.ensures.words l1.layer1_as_slice.ensures.words l0.layer0_as_slice.ensures.words h.1 a.budget (length a.out-1.now))
-    f.fill_in.ensures
+    let a = c.args in
+    let h = was_taken a.store.now a.c c.capacity-n.ensures c.refusal-no.ensures c.if-no-ne0.false in
+    fill_answered a.out.now
+    (fill_lent h.0 a.c c.layer2_as_slice.ensures.words c.layer1_as_slice.ensures.words c.layer0_as_slice.ensures.words h.1 a.budget (length a.out.now))
+    c.fill_in.ensures

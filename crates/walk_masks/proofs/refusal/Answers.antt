@@ -12,11 +12,9 @@ returns-then-n-eq0 c = sym (rw (eq-eqb c.args.n 0 c.if-n-eq0.true))
 pub returns-then-are_prefixes : goal.returns-then-are_prefixes
 unfolding refusal_of prefixes_fit
 returns-then-are_prefixes c =
-    let e = c.before.before in
-    sym (rw (ne_eqb e.args.n 0 e.if-n-eq0.false, top_is e.args.n, sym c.are_prefixes.ensures ∙ c.if-are_prefixes.true))
+    sym (rw (ne_eqb c.args.n 0 c.if-n-eq0.false, top_is c.args.n, sym c.are_prefixes.ensures ∙ c.if-are_prefixes.true))
 
 pub returns-else-are_prefixes : goal.returns-else-are_prefixes
 unfolding refusal_of prefixes_fit
 returns-else-are_prefixes c =
-    let e = c.before.before in
-    sym (rw (ne_eqb e.args.n 0 e.if-n-eq0.false, top_is e.args.n, sym c.are_prefixes.ensures ∙ c.if-are_prefixes.false))
+    sym (rw (ne_eqb c.args.n 0 c.if-n-eq0.false, top_is c.args.n, sym c.are_prefixes.ensures ∙ c.if-are_prefixes.false))

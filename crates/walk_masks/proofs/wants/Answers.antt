@@ -25,12 +25,10 @@ returns-then-masks-ne0-2 c = ap asks (sym (low_pass _ 0 3 c.if-masks-ne0.false �
 
 pub returns-then-masks-ne0-3 : goal.returns-then-masks-ne0-3
 returns-then-masks-ne0-3 c =
-    let e = c.before in
-    ap asks (sym (low_pass _ 0 3 e.if-masks-ne0.false ∙ low_pass _ 1 2 e.if-masks-ne0-2.false ∙ low_stop _ 2 1 c.if-masks-ne0-3.true))
+    ap asks (sym (low_pass _ 0 3 c.if-masks-ne0.false ∙ low_pass _ 1 2 c.if-masks-ne0-2.false ∙ low_stop _ 2 1 c.if-masks-ne0-3.true))
 
 pub returns : goal.returns
 unfolding low_from
 returns c =
-    let e = c.before in
-    let ms = e.args.t1 in
-    last (eqb (get_or ms top_most 0) 0) ∙ ap asks (sym (low_pass ms 0 3 e.if-masks-ne0.false ∙ low_pass ms 1 2 e.if-masks-ne0-2.false ∙ low_pass ms 2 1 c.if-masks-ne0-3.false))
+    let ms = c.args.masks in
+    last (eqb (get_or ms top_most 0) 0) ∙ ap asks (sym (low_pass ms 0 3 c.if-masks-ne0.false ∙ low_pass ms 1 2 c.if-masks-ne0-2.false ∙ low_pass ms 2 1 c.if-masks-ne0-3.false))

@@ -9,18 +9,13 @@ use Rattle.walk.proofs.Cursor.finish.Goals as goal
 
 pub returns-then-masks-ne0 : goal.returns-then-masks-ne0
 returns-then-masks-ne0 c =
-    let h = c.before in
-    let p = h.before in
     subst (Finishes top_most _ _) (sym c.step.ensures)
-    (finish_member top_most _ _ (omega arith) p.if-masks-ne0.true p.place.ensures.1 h.hand-d.ensures (ap (λ (x : ℕ). x % 4294967296) p.place.ensures.0))
+    (finish_member top_most _ _ (omega arith) c.if-masks-ne0.true c.place.ensures.1 c.hand-d.ensures (ap (λ (x : ℕ). x % 4294967296) c.place.ensures.0))
 
 pub returns-then-wants : goal.returns-then-wants
 returns-then-wants c =
-    let t = c.before in
-    subst (Finishes top_most _ _) (sym c.step-then-wants.ensures) (finish_paused top_most _ _ (sym t.wants.ensures ∙ t.if-wants.true))
+    subst (Finishes top_most _ _) (sym c.step-then-wants.ensures) (finish_paused top_most _ _ (sym c.wants.ensures ∙ c.if-wants.true))
 
 pub returns : goal.returns
 returns c =
-    let t = c.before in
-    let w = t.before in
-    subst (Finishes top_most _ _) (sym c.step-2.ensures) (finish_end top_most _ _ (sym w.wants.ensures ∙ t.if-wants.false) w.if-masks-ne0.false)
+    subst (Finishes top_most _ _) (sym c.step-2.ensures) (finish_end top_most _ _ (sym c.wants.ensures ∙ c.if-wants.false) c.if-masks-ne0.false)

@@ -9,4 +9,4 @@ pub returns : goal.returns
 unfolding handed less
 returns c =
     let a = c.args in
-    ap (λ (x : List ℕ). record { masks = x; prefix = a.self.prefix-1 }) c.without.ensures
+    ap (λ (x : List ℕ). record { masks = x; prefix = a.self.prefix }) c.without.ensures

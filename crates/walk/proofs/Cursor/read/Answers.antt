@@ -6,7 +6,4 @@ use Rattle.walk.proofs.Cursor.read.Goals as goal
 
 pub returns : goal.returns
 returns c =
-    let p = c.before.before in
-    let s = p.before.before in
-    let l = s.args.layer.now in
-    lowers_by (λ (k i : ℕ). get_or l i 0) s.requires.0 s.requires.1 p.place-q.ensures c.get.ensures c.handle_level.ensures
+    lowers_by (λ (k i : ℕ). get_or c.args.layer.now i 0) c.requires.0 c.requires.1 c.place-q.ensures c.get.ensures c.handle_level.ensures

@@ -8,14 +8,11 @@ use Rattle.walk.proofs.Cursor.start.Goals as goal
 
 pub returns-then-capacity-eq0 : goal.returns-then-capacity-eq0
 returns-then-capacity-eq0 c =
-    let k = c.before.before in
-    let a = k.args in
-    answered (c.step.ensures ∙ start_2 a.store.now a.self (no_store a.store.now k.capacity.ensures c.if-capacity-eq0.true))
+    let a = c.args in
+    answered (c.step.ensures ∙ start_2 a.store.now a.self (no_store a.store.now c.capacity.ensures c.if-capacity-eq0.true))
 
 pub returns : goal.returns
 returns c =
-    let g = c.before.before in
-    let e = g.before in
-    let a = e.args in
+    let a = c.args in
     answered (c.step-2.ensures ∙ ap (λ (x : Cursor). record { cursor = x; reads = 1; answer = Paused }) c.above-c.ensures
-    ∙ start_runs (some_store a.store.now e.capacity.ensures e.if-capacity-eq0.false) a.self g.top_word.result g.top_word.ensures)
+    ∙ start_runs (some_store a.store.now c.capacity.ensures c.if-capacity-eq0.false) a.self c.top_word.result c.top_word.ensures)
