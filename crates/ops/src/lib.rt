@@ -1,5 +1,6 @@
 // Or, and, xor of two stores of equal capacity, in place: the Rust's ops.rs, `BitOrAssign`, `BitAndAssign`, `BitXorAssign`.
 #![tactic(auto)]
+
 ghost use Rattle.ops_merge.specs.Calls.{Assigned};
 
 use store::Did;

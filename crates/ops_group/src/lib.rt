@@ -1,5 +1,6 @@
 // Two groups of up to 64 words, merged by or, and, or xor, with the summary word over the first.
 #![tactic(auto)]
+
 ghost use Rattle.std.specs.Prelude.{◌≡◌, ◌<◌, leb, length, get_or, set};
 ghost use Rattle.util.specs.Word.{count};
 ghost use Rattle.store.specs.Build.{flags};

@@ -1,6 +1,7 @@
 // Or, and, xor of two stores of equal capacity, in place: one body for the three, told which. No work is done under a clear summary bit of
 // the side that decides.
 #![tactic(auto)]
+
 ghost use Rattle.std.specs.Prelude.{◌≡◌, ◌-◌, ◌<◌, min};
 ghost use Rattle.ops_merge.specs.Calls.{Assigned};
 ghost use Rattle.ops_merge.specs.Tree.{MergeAt, TaskDone, task_of};

@@ -1,5 +1,6 @@
 // Or, and, xor of one word with another, told which.
 #![tactic(auto)]
+
 ghost use Rattle.std.specs.Prelude.{◌≡◌, get_or};
 ghost use Rattle.ops_word.specs.Op.{op_word, decider};
 

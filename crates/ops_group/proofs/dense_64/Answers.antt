@@ -6,9 +6,7 @@ use Rattle.ops_group.proofs.Loops.{flags_whole}
 use Rattle.ops_group.proofs.Named.{length_named}
 use Rattle.ops_group.proofs.dense_64.Goals as goal
 
-pub returns : goal.returns
-returns c =
-    let g = c.before.before.before.before in
-    let s = g.before.before.before.before in
-    let a = s.args in
-    (g.merge_64.ensures, flags_whole g.merge_64.new.0 (ap length g.merge_64.ensures ∙ length_named a.op all 0 a.part-1.now a.other.now ∙ s.requires.0) c.gather.ensures)
+pub returns-clause-value : goal.returns-clause-value
+returns-clause-value c =
+    let a = c.args in
+    flags_whole c.merge_64.new.part (ap length c.merge_64.ensures ∙ length_named a.op all 0 a.part.now a.other.now ∙ c.requires.0) c.gather.ensures

@@ -5,21 +5,18 @@ use Rattle.ops_group.proofs.group.Goals as goal
 
 pub dense_64-requires : goal.dense_64-requires
 dense_64-requires c =
-    let d = c.before in
-    dense_long _ _ _ (sym d.is_dense.ensures ∙ d.if-is_dense.true)
+    dense_long _ _ _ (sym c.is_dense.ensures ∙ c.if-is_dense.true)
 
 pub returns-then-is_dense : goal.returns-then-is_dense
 returns-then-is_dense c =
-    let e = c.before.before in
-    let d = e.before.before in
-    let a = d.args in
-    dense_out a.op a.part-1.now a.other.now a.w a.m e.dense_64.new.0 _ (sym d.is_dense.ensures ∙ d.if-is_dense.true)
-    e.dense_64.ensures.0 e.dense_64.ensures.1
+    let a = c.args in
+    let out = dense_out a.op a.part.now a.other.now a.w a.m c.dense_64.new.part _ (sym c.is_dense.ensures ∙ c.if-is_dense.true)
+    c.dense_64.ensures.part_after c.dense_64.ensures.value in
+    record { part_after = out.0; value = out.1 }
 
 pub returns : goal.returns
 returns c =
-    let e = c.before.before in
-    let d = e.before.before in
-    let a = d.args in
-    sparse_out a.op a.part-1.now a.other.now a.w a.m e.sparse.new.0 _ (sym d.is_dense.ensures ∙ d.if-is_dense.false)
-    e.sparse.ensures.0 e.sparse.ensures.1
+    let a = c.args in
+    let out = sparse_out a.op a.part.now a.other.now a.w a.m c.sparse.new.part _ (sym c.is_dense.ensures ∙ c.if-is_dense.false)
+    c.sparse.ensures.part_after c.sparse.ensures.value in
+    record { part_after = out.0; value = out.1 }

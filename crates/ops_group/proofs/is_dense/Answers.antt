@@ -16,23 +16,16 @@ returns-then-n-ne64 c = rw (ne_eqb c.args.n 64 c.if-n-ne64.true)
 pub returns-then-l-ne64 : goal.returns-then-l-ne64
 unfolding is_dense
 returns-then-l-ne64 c =
-    let s = c.before.before in
-    rw (eq-eqb s.args.n 64 c.if-n-ne64.false, ne_eqb s.args.l 64 c.if-l-ne64.true)
+    rw (eq-eqb c.args.n 64 c.if-n-ne64.false, ne_eqb c.args.l 64 c.if-l-ne64.true)
 
 pub returns-then-is_few : goal.returns-then-is_few
 unfolding is_dense
 returns-then-is_few c =
-    let f = c.before in
-    let t = f.before in
-    let s = t.before.before in
-    let few = leb-true (count s.args.m) 3 (sym f.is_few.ensures ∙ c.if-is_few.true) in
-    rw (eq-eqb s.args.n 64 t.if-n-ne64.false, eq-eqb s.args.l 64 t.if-l-ne64.false, lt-leb 12 (count s.args.m) (omega (arith, few)))
+    let few = leb-true (count c.args.m) 3 (sym c.is_few.ensures ∙ c.if-is_few.true) in
+    rw (eq-eqb c.args.n 64 c.if-n-ne64.false, eq-eqb c.args.l 64 c.if-l-ne64.false, lt-leb 12 (count c.args.m) (omega (arith, few)))
 
 pub returns : goal.returns
 unfolding is_dense
 returns c =
-    let f = c.before in
-    let t = f.before in
-    let s = t.before.before in
-    rw (eq-eqb s.args.n 64 t.if-n-ne64.false, eq-eqb s.args.l 64 t.if-l-ne64.false)
-    (sym (ap (λ (x : ℕ). leb 12 x) (count_ones s.args.m s.ranges.m.fits)))
+    rw (eq-eqb c.args.n 64 c.if-n-ne64.false, eq-eqb c.args.l 64 c.if-l-ne64.false)
+    (sym (ap (λ (x : ℕ). leb 12 x) (count_ones c.args.m c.ranges.m.fits)))

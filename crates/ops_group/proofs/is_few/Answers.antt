@@ -26,7 +26,4 @@ few m a b r h a_is b_is r-is = go (ℕ_discrete r 0)
 
 pub returns : goal.returns
 returns c =
-    let two = c.before in
-    let one = two.before in
-    let s = one.before in
-    few s.args.m _ _ _ s.ranges.m.fits one.drop_lowest.ensures two.drop_lowest-2.ensures c.drop_lowest-3.ensures
+    few c.args.m _ _ _ c.ranges.m.fits c.drop_lowest.ensures c.drop_lowest-2.ensures c.drop_lowest-3.ensures

@@ -5,7 +5,7 @@ use Rattle.ops_word.proofs.moving.Goals as goal
 
 pub returns-then-op-ne-AND : goal.returns-then-op-ne-AND
 unfolding decider
-returns-then-op-ne-AND c = let b = c.before in rw (ne_eqb b.args.op 16 b.if-op-ne-AND.true) c.get.ensures
+returns-then-op-ne-AND c = rw (ne_eqb c.args.op 16 c.if-op-ne-AND.true) c.get.ensures
 
 pub returns : goal.returns
 unfolding decider

@@ -1,8 +1,0 @@
--- `ops::bitand_assign` meets its contract.
-use Rattle.ops.proofs.bitand_assign.Goals as goal
-
-pub shape_of-store : goal.shape_of-store
-shape_of-store c = c.assign.ensures.long
-
-pub returns : goal.returns
-returns c = c.assign.ensures
