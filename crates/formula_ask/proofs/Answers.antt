@@ -13,7 +13,6 @@ use Rattle.store.specs.Answer.{asked_paper, read_paper, gives, refuses}
 use Rattle.store.specs.Layout.{top, cap}
 use Rattle.store.specs.declared.Asked.TheVariants.{Is, Refused as AskedRefused}
 use Rattle.store.specs.declared.Read.TheVariants.{Word, Refused as ReadRefused}
-use Rattle.set_layers.specs.Calls.{index_in}
 use Rattle.formula_codes.specs.Check.{stores_of, check_of}
 use Rattle.formula_codes.specs.Codes.{is_formula}
 use Rattle.formula_codes.specs.Tree.{four}

@@ -1,5 +1,6 @@
 // The calls over a formula: the Rust's virtual sets, with the codes and the stores lent beside each other.
 #![tactic(auto)]
+
 ghost use Rattle.std.specs.Prelude.{◌≡◌};
 ghost use Rattle.util.specs.Outcome.{Settled};
 ghost use Rattle.store.specs.Answer.{asked_paper, read_paper};

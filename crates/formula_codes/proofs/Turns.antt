@@ -13,7 +13,7 @@ use lib.ListN.{length, get_or, drop, drop_of_length-le}
 use lib.Seq.{drop-cons}
 use Rattle.util.proofs.Same.{both}
 use Rattle.formula_codes.specs.Codes.{code_kind, cuts_in, takes, takes_in, left}
-use Rattle.formula_codes.specs.Codes.CodeKind.{is_store, isUnknown}
+use Rattle.formula_codes.specs.Codes.CodeKind.{is_store, is_unknown}
 use Rattle.formula_codes.specs.Steps.{waiting, Counting, Looking}
 
 -- ---- the kinds
@@ -23,7 +23,7 @@ module _ (c : ℕ) where
   unfolding code_kind
   kind_store h = rw (lt-ltb c 4 h)
 
-  pub kind_unknown : 4 ≤ c → (c < 16) ⊎ (19 ≤ c) → c ≢ 19 → c ≢ 20 → code_kind c ≡ isUnknown
+  pub kind_unknown : 4 ≤ c → (c < 16) ⊎ (19 ≤ c) → c ≢ 19 → c ≢ 20 → code_kind c ≡ is_unknown
   unfolding code_kind
   kind_unknown h o n19 n20 =
       let out : (n : ℕ) → 16 ≤ n → n < 19 → c ≢ n = λ n a b e. ⊎_elim (λ (l : c < 16). omega arith) (λ (l : 19 ≤ c). omega arith) o in

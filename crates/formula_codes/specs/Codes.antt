@@ -6,16 +6,16 @@ use Rattle.formula_codes.specs.Tree.Tree.{store, both, either, one_of, inverse, 
 
 -- "0 to 3 a store, 16 and, 17 or, 18 xor, 19 not, 20 all; every other code is unknown."
 pub data CodeKind : Type 0 where
-  is_store isBoth isEither isOneOf isInverse isEvery isUnknown : CodeKind
+  is_store is_both is_either is_one_of is_inverse is_every is_unknown : CodeKind
 
 unfoldable pub code_kind : ℕ → CodeKind
 code_kind c =
     cond (ltb c 4) is_store
-    (cond (eqb c 16) isBoth
-    (cond (eqb c 17) isEither
-    (cond (eqb c 18) isOneOf
-    (cond (eqb c 19) isInverse
-    (cond (eqb c 20) isEvery isUnknown)))))
+    (cond (eqb c 16) is_both
+    (cond (eqb c 17) is_either
+    (cond (eqb c 18) is_one_of
+    (cond (eqb c 19) is_inverse
+    (cond (eqb c 20) is_every is_unknown)))))
 
 -- ---- the tree
 
@@ -32,12 +32,12 @@ turn_one f (a ∷ st) = f a ∷ st
 -- one code on the trees that wait, the last of them first
 abbrev pub grow : CodeKind → ℕ → List Tree → List Tree
 grow is_store c st = store c ∷ st
-grow isBoth c st = join_two both st
-grow isEither c st = join_two either st
-grow isOneOf c st = join_two one_of st
-grow isInverse c st = turn_one inverse st
-grow isEvery c st = every ∷ st
-grow isUnknown c st = st
+grow is_both c st = join_two both st
+grow is_either c st = join_two either st
+grow is_one_of c st = join_two one_of st
+grow is_inverse c st = turn_one inverse st
+grow is_every c st = every ∷ st
+grow is_unknown c st = st
 
 unfoldable pub trees : List ℕ → List Tree → List Tree
 trees [] st = st
@@ -63,12 +63,12 @@ cuts_in (c ∷ cs) = leb 19 c || cuts_in cs
 -- the values that a code takes, of those that wait, before it puts one: 9, more than ever wait, for a code that may not stand there
 abbrev pub takes : CodeKind → Bool → ℕ
 takes is_store lent = cond lent 0 9
-takes isBoth lent = 2
-takes isEither lent = 2
-takes isOneOf lent = 2
-takes isInverse lent = 1
-takes isEvery lent = 0
-takes isUnknown lent = 9
+takes is_both lent = 2
+takes is_either lent = 2
+takes is_one_of lent = 2
+takes is_inverse lent = 1
+takes is_every lent = 0
+takes is_unknown lent = 9
 
 -- the values that a code takes where the four slices have these lengths: "an empty slice among the other three means not lent"
 unfoldable pub takes_in : List ℕ → ℕ → ℕ

@@ -1,5 +1,6 @@
 // The codes of a formula over at most four stores: which lists of codes are one, and what is refused.
 #![tactic(auto)]
+
 ghost use Rattle.std.specs.Prelude.{true, ◌≢◌, ◌≡◌, ◌≤◌, length};
 ghost use Rattle.store.specs.Layout.{max_cap, store_len};
 ghost use Rattle.formula_codes.specs.Check.{beside_of, sooner, stores_of, check_of};
@@ -25,6 +26,7 @@ pub fn joined(code: u8, k: usize, x: u64, y: u64) -> u64
 }
 
 // Whether some code is 19 or more: no other looks at which bits exist.
+#[tactic(auto, using(crate::proofs::Turns::cut_found))]
 pub fn cuts(codes: &[u8]) -> bool
     ensures { result ≡ cuts_in codes.now }
 {
@@ -117,6 +119,7 @@ fn stores(s0: &[u64], s1: &[u64], s2: &[u64], s3: &[u64]) -> u32
 }
 
 // How many values wait once a code has taken t of d and put one; 0 where there are too few, or where eight stay.
+#[tactic(auto, using(crate::proofs::Turns::too_many))]
 fn put(d: usize, t: usize) -> usize
     requires { d ≤ 8 }
     ensures { result ≡ waiting t d }
@@ -167,6 +170,7 @@ fn left(codes: &[u8], lens: &[usize; 4]) -> usize
 }
 
 // Whether the codes are a formula over the four slices.
+#[tactic(auto, using(crate::proofs::Answers::formula_long))]
 fn is_formula(codes: &[u8], s0: &[u64], s1: &[u64], s2: &[u64], s3: &[u64]) -> bool
     ensures { result ≡ is_formula (four s0.now s1.now s2.now s3.now) codes.now }
 {

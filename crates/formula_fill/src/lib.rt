@@ -1,5 +1,6 @@
 // Many members of a formula in one call: what that many calls of `formula_walk::next` do, with the tests made once.
 #![tactic(auto)]
+
 ghost use Rattle.std.specs.Prelude.{length};
 ghost use Rattle.util.specs.Outcome.{Settled};
 ghost use Rattle.store.specs.Layout.{top_most};

@@ -9,7 +9,7 @@ use native.Mathlib.Omega.{arith}
 use lib.Dec.{ltb}
 use lib.ListN.{length, get_or}
 use Rattle.formula_codes.specs.Codes.{CodeKind, code_kind, join_two, turn_one, grow, trees, first_tree, tree_of, takes, takes_in, left, is_formula}
-use Rattle.formula_codes.specs.Codes.CodeKind.{is_store, isBoth, isEither, isOneOf, isInverse, isEvery, isUnknown}
+use Rattle.formula_codes.specs.Codes.CodeKind.{is_store, is_both, is_either, is_one_of, is_inverse, is_every, is_unknown}
 use Rattle.formula_codes.specs.Tree.{Tree}
 use Rattle.formula_codes.specs.Tree.Tree.{both, either, one_of, inverse}
 use Rattle.formula_codes.proofs.Accepted.{formula_one}
@@ -35,12 +35,12 @@ one f (a ∷ st) r h = (refl, omega arith)
 grow_frame : (κ : CodeKind) (lent : Bool) (c : ℕ) (st r : List Tree) → length st ≤ 8 → takes κ lent ≤ length st → Frames (grow κ c) st r (takes κ lent)
 grow_frame is_store true c st r m h = (refl, omega arith)
 grow_frame is_store false c st r m h = absurd (omega arith)
-grow_frame isBoth lent c st r m h = two both st r h
-grow_frame isEither lent c st r m h = two either st r h
-grow_frame isOneOf lent c st r m h = two one_of st r h
-grow_frame isInverse lent c st r m h = one inverse st r h
-grow_frame isEvery lent c st r m h = (refl, omega arith)
-grow_frame isUnknown lent c st r m h = absurd (omega arith)
+grow_frame is_both lent c st r m h = two both st r h
+grow_frame is_either lent c st r m h = two either st r h
+grow_frame is_one_of lent c st r m h = two one_of st r h
+grow_frame is_inverse lent c st r m h = one inverse st r h
+grow_frame is_every lent c st r m h = (refl, omega arith)
+grow_frame is_unknown lent c st r m h = absurd (omega arith)
 
 -- ---- many codes
 

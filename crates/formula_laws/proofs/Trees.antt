@@ -96,6 +96,10 @@ module _ (N : ℕ) (ss : List (List ℕ)) (z : (c : ℕ) → Sound N (nth ss c))
   pub union_full : (e : Tree) → Union e → Full (tree_word N ss e) (top N)
   unfolding tree_word value joined op_word on_at bit
   union_full (store c) u k p h e = sound_full N (nth ss c) (z c) k p h e
+  union_full (both _ _) u k p h e = elim u [ ]
+  union_full (one_of _ _) u k p h e = elim u [ ]
+  union_full (inverse _) u k p h e = elim u [ ]
+  union_full every u k p h e = elim u [ ]
   union_full (either a b) u k p h e =
       go (ℕ_discrete (bit (lw N ss a (suc k) (p / 64)) (p % 64)) 1)
       (sym (bit-bit_or (lw N ss a (suc k) (p / 64)) (lw N ss b (suc k) (p / 64)) (p % 64)) ∙ e)

@@ -1,5 +1,6 @@
 // Many members of two stores joined by one code: the commonest formula, walked over the layers of the two stores with no look at its codes.
 #![tactic(auto)]
+
 ghost use Rattle.std.specs.Prelude.{[], ◌∷◌, ◌≡◌, ℕ, ◌+◌, ◌<◌, length, get_or};
 ghost use Rattle.util.specs.Outcome.{Settled};
 ghost use Rattle.store.specs.Layout.{top_most};

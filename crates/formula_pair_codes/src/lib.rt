@@ -1,6 +1,7 @@
 // The commonest formula: two stores and what joins them. Its codes name two of four lent stores, and each goes on by a call of its own, since
 // no reference can stand for one of several that are lent for different times.
 #![tactic(auto)]
+
 ghost use Rattle.std.specs.Prelude.{◌≡◌, ◌%◌, get_or};
 ghost use Rattle.util.specs.Outcome.{Settled};
 ghost use Rattle.walk_fill.specs.Fill.{batch_paper};

@@ -1,5 +1,6 @@
 // Where a layer's word stands in a store, and which of its bits exist.
 #![tactic(auto)]
+
 ghost use Rattle.std.specs.Prelude.{cond, ◌≡◌, suc, ◌%◌, ◌≤◌};
 ghost use Rattle.store.specs.Layout.{top_most};
 ghost use Rattle.formula_codes.specs.Tree.{existing};

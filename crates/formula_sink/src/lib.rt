@@ -1,5 +1,6 @@
 // The descent of a walk over a formula: words are read until none is wanted or the budget is spent. A formula word counts one read.
 #![tactic(auto)]
+
 ghost use Rattle.std.specs.Prelude.{◌≡◌, ◌+◌, ◌-◌, ◌<◌, get_or};
 ghost use Rattle.store.specs.Layout.{top_most};
 ghost use Rattle.walk.specs.Steps.{Lowers, Sinks};

@@ -1,5 +1,6 @@
 // The walk over a formula: what `walk` does over one store, with a formula's word in the place of a store's. A formula word counts one read.
 #![tactic(auto)]
+
 ghost use Rattle.std.specs.Prelude.{◌≡◌};
 ghost use Rattle.util.specs.Outcome.{Settled};
 ghost use Rattle.store.specs.Layout.{top_most};

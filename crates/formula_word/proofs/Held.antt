@@ -10,7 +10,7 @@ use lib.Dec.{leb, ltb}
 use lib.ListN.{length, get_or, set, length-set}
 use lib.Seq.{get_or-set_same, get_or-set_other}
 use Rattle.formula_codes.specs.Codes.{CodeKind, code_kind, join_two, turn_one, grow, trees, first_tree, takes, takes_in, left}
-use Rattle.formula_codes.specs.Codes.CodeKind.{is_store, isBoth, isEither, isOneOf, isInverse, isEvery, isUnknown}
+use Rattle.formula_codes.specs.Codes.CodeKind.{is_store, is_both, is_either, is_one_of, is_inverse, is_every, is_unknown}
 use Rattle.formula_codes.specs.Tree.{Tree, joined, not_in, value}
 use Rattle.formula_codes.specs.Tree.Tree.{store, both, either, one_of, inverse, every}
 use Rattle.formula_word.specs.Machine.{Stack, made_of, moves, stepped, evaluated}
@@ -128,12 +128,12 @@ module _ (w : ℕ → ℕ) (k cut : ℕ) where
   unfolding moves made_of value
   by_kind_lem is_store true c x s st e h l held = (pushed s st (store c) x (omega (arith, l)) e held, omega arith)
   by_kind_lem is_store false c x s st e h l held = absurd (omega (arith, held.few))
-  by_kind_lem isBoth lent c x s st e h l held = two both s st (joined 16 k (below s) s.last) h (λ a b p q. ap₂ (joined 16 k) p q) held
-  by_kind_lem isEither lent c x s st e h l held = two either s st (joined 17 k (below s) s.last) h (λ a b p q. ap₂ (joined 17 k) p q) held
-  by_kind_lem isOneOf lent c x s st e h l held = two one_of s st (joined 18 k (below s) s.last) h (λ a b p q. ap₂ (joined 18 k) p q) held
-  by_kind_lem isInverse lent c x s st e h l held = one inverse s st (not_in k cut s.last) h (λ a p. ap (not_in k cut) p) held
-  by_kind_lem isEvery lent c x s st e h l held = (pushed s st every cut (omega (arith, l)) refl held, omega arith)
-  by_kind_lem isUnknown lent c x s st e h l held = absurd (omega (arith, held.few))
+  by_kind_lem is_both lent c x s st e h l held = two both s st (joined 16 k (below s) s.last) h (λ a b p q. ap₂ (joined 16 k) p q) held
+  by_kind_lem is_either lent c x s st e h l held = two either s st (joined 17 k (below s) s.last) h (λ a b p q. ap₂ (joined 17 k) p q) held
+  by_kind_lem is_one_of lent c x s st e h l held = two one_of s st (joined 18 k (below s) s.last) h (λ a b p q. ap₂ (joined 18 k) p q) held
+  by_kind_lem is_inverse lent c x s st e h l held = one inverse s st (not_in k cut s.last) h (λ a p. ap (not_in k cut) p) held
+  by_kind_lem is_every lent c x s st e h l held = (pushed s st every cut (omega (arith, l)) refl held, omega arith)
+  by_kind_lem is_unknown lent c x s st e h l held = absurd (omega (arith, held.few))
 
   -- THE CODES, from any trees that wait on: where one value is left, it is the tree's
   pub leaves_value : (ls ws cs : List ℕ) → ((c : ℕ) → get_or ws c 0 ≡ w c) → (s : Stack) (st : List Tree) → HeldOn s st → left ls cs (length st) ≡ 1

@@ -8,15 +8,15 @@ use borrow.Author.Tests.{leb-false, ne_eqb}
 use lib.Dec.{leb, ltb, eqb}
 use lib.ListN.{get_or, set}
 use Rattle.formula_codes.specs.Codes.{code_kind, cuts_in}
-use Rattle.formula_codes.specs.Codes.CodeKind.{is_store, isBoth, isEither, isOneOf, isUnknown}
+use Rattle.formula_codes.specs.Codes.CodeKind.{is_store, is_both, is_either, is_one_of, is_unknown}
 use Rattle.formula_word.specs.Machine.{Stack, made_of, moves, stepped, evaluated}
 
 made_uncut : (c w k a b x y : ℕ) → c < 19 → made_of (code_kind c) w k a x y ≡ made_of (code_kind c) w k b x y
 unfolding code_kind made_of
 made_uncut c w k a b x y h = rw (ne_eqb c 19 (λ e. omega arith), ne_eqb c 20 (λ e. omega arith)) (go (ltb c 4) (eqb c 16) (eqb c 17) (eqb c 18))
   where
-    go : (p q r s : Bool) → made_of (cond p is_store (cond q isBoth (cond r isEither (cond s isOneOf isUnknown)))) w k a x y
-        ≡ made_of (cond p is_store (cond q isBoth (cond r isEither (cond s isOneOf isUnknown)))) w k b x y
+    go : (p q r s : Bool) → made_of (cond p is_store (cond q is_both (cond r is_either (cond s is_one_of is_unknown)))) w k a x y
+        ≡ made_of (cond p is_store (cond q is_both (cond r is_either (cond s is_one_of is_unknown)))) w k b x y
     go true q r s = refl
     go false true r s = refl
     go false false true s = refl

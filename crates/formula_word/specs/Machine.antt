@@ -3,7 +3,7 @@
 use Rattle.std.specs.Prelude.{List, [], ◌∷◌, map, ℕ, suc, ◌+◌, ◌%◌, get_or, set, replicate}
 use Rattle.store.specs.Layout.{top_most}
 use Rattle.formula_codes.specs.Codes.{CodeKind, code_kind}
-use Rattle.formula_codes.specs.Codes.CodeKind.{is_store, isBoth, isEither, isOneOf, isInverse, isEvery, isUnknown}
+use Rattle.formula_codes.specs.Codes.CodeKind.{is_store, is_both, is_either, is_one_of, is_inverse, is_every, is_unknown}
 use Rattle.formula_codes.specs.Tree.{existing, joined, not_in}
 use Rattle.formula_place.specs.Spots.{places_in, place_of}
 
@@ -18,22 +18,22 @@ pub record Stack : Type 0 where
 -- what a code makes of the last two, a and b, in layer k, where w is the word of the store that it names
 unfoldable pub made_of : CodeKind → ℕ → ℕ → ℕ → ℕ → ℕ → ℕ
 made_of is_store w k cut a b = w
-made_of isBoth w k cut a b = joined 16 k a b
-made_of isEither w k cut a b = joined 17 k a b
-made_of isOneOf w k cut a b = joined 18 k a b
-made_of isInverse w k cut a b = not_in k cut b
-made_of isEvery w k cut a b = cut
-made_of isUnknown w k cut a b = b
+made_of is_both w k cut a b = joined 16 k a b
+made_of is_either w k cut a b = joined 17 k a b
+made_of is_one_of w k cut a b = joined 18 k a b
+made_of is_inverse w k cut a b = not_in k cut b
+made_of is_every w k cut a b = cut
+made_of is_unknown w k cut a b = b
 
 -- how far the place goes on, in a ring of eight: one more value, one less, or as many
 unfoldable pub moves : CodeKind → ℕ
 moves is_store = 1
-moves isBoth = 7
-moves isEither = 7
-moves isOneOf = 7
-moves isInverse = 0
-moves isEvery = 1
-moves isUnknown = 0
+moves is_both = 7
+moves is_either = 7
+moves is_one_of = 7
+moves is_inverse = 0
+moves is_every = 1
+moves is_unknown = 0
 
 -- the last value goes to its place, and the code's is the last
 unfoldable pub stepped : ℕ → ℕ → List ℕ → ℕ → Stack → Stack

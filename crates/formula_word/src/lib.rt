@@ -1,6 +1,7 @@
 // The layer word of a formula, its codes one after another on a stack: the Rust's `BitSetAnd`, `BitSetOr`, `BitSetXor`, `BitSetNot` and
 // `BitSetAll` of ops.rs.
 #![tactic(auto)]
+
 ghost use Rattle.std.specs.Prelude.{true, ◌≡◌, suc, ◌%◌, ◌≤◌, ◌<◌, length, get_or};
 ghost use Rattle.store.specs.Layout.{top_most};
 ghost use Rattle.formula_codes.specs.Codes.{code_kind};

@@ -9,16 +9,10 @@ returns-then-no-ne0 c =
 
 pub returns-then-n-i : goal.returns-then-n-i
 returns-then-n-i c =
-    let g = c.before in
-    let e = g.before in
-    let a = e.args in
-    formula_contains_past a.s0.now a.s1.now a.s2.now a.s3.now a.codes.now e.check-no.ensures e.if-no-ne0.false g.named-n.ensures a.id c.if-n-i.true
+    let a = c.args in
+    formula_contains_past a.s0.now a.s1.now a.s2.now a.s3.now a.codes.now c.check-no.ensures c.if-no-ne0.false c.named-n.ensures a.id c.if-n-i.true
 
 pub returns : goal.returns
 returns c =
-    let w = c.before in
-    let l = w.before in
-    let g = l.before in
-    let e = g.before in
-    let a = e.args in
-    formula_contains_is a.s0.now a.s1.now a.s2.now a.s3.now a.codes.now e.check-no.ensures e.if-no-ne0.false g.named-n.ensures a.id l.if-n-i.false w.word.ensures c.is_set.ensures
+    let a = c.args in
+    formula_contains_is a.s0.now a.s1.now a.s2.now a.s3.now a.codes.now c.check-no.ensures c.if-no-ne0.false c.named-n.ensures a.id c.if-n-i.false c.word.ensures c.is_set.ensures

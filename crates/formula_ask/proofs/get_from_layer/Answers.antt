@@ -8,34 +8,24 @@ pub returns-then-no-ne0 : goal.returns-then-no-ne0
 returns-then-no-ne0 c =
     -- the top layer of the stores
     let top_here : c.top-top.result ≡ top (cap c.args.s0.now) =
-        c.top-top.ensures ∙ ap top c.named-n.ensures in
-    let f = c.before in
-    let t = f.before.before in
-    let a = t.args in
-    word-refused a.s0.now a.s1.now a.s2.now a.s3.now a.codes.now f.check.ensures top_here a.layer f.refusal-no.ensures a.idx c.if-no-ne0.true
+    c.top-top.ensures ∙ ap top c.named-n.ensures in
+    let a = c.args in
+    word-refused a.s0.now a.s1.now a.s2.now a.s3.now a.codes.now c.check.ensures top_here a.layer c.refusal-no.ensures a.idx c.if-no-ne0.true
 
 pub returns-then-layer-top : goal.returns-then-layer-top
 returns-then-layer-top c =
     -- the top layer of the stores
     let top_here : c.top-top.result ≡ top (cap c.args.s0.now) =
-        c.top-top.ensures ∙ ap top c.named-n.ensures in
-    let i = c.before in
-    let e = i.before in
-    let f = e.before in
-    let t = f.before.before in
-    let a = t.args in
-    layer_word-top a.s0.now a.s1.now a.s2.now a.s3.now a.codes.now f.check.ensures top_here a.layer f.refusal-no.ensures e.if-no-ne0.false
-    t.named-n.ensures a.idx i.if-layer-top.true c.word.ensures
+    c.top-top.ensures ∙ ap top c.named-n.ensures in
+    let a = c.args in
+    layer_word-top a.s0.now a.s1.now a.s2.now a.s3.now a.codes.now c.check.ensures top_here a.layer c.refusal-no.ensures c.if-no-ne0.false
+    c.named-n.ensures a.idx c.if-layer-top.true c.word.ensures
 
 pub returns : goal.returns
 returns c =
     -- the top layer of the stores
     let top_here : c.top-top.result ≡ top (cap c.args.s0.now) =
-        c.top-top.ensures ∙ ap top c.named-n.ensures in
-    let i = c.before in
-    let e = i.before in
-    let f = e.before in
-    let t = f.before.before in
-    let a = t.args in
-    layer_word_is a.s0.now a.s1.now a.s2.now a.s3.now a.codes.now f.check.ensures top_here a.layer f.refusal-no.ensures e.if-no-ne0.false
-    t.named-n.ensures a.idx i.if-layer-top.false c.word-2.ensures
+    c.top-top.ensures ∙ ap top c.named-n.ensures in
+    let a = c.args in
+    layer_word_is a.s0.now a.s1.now a.s2.now a.s3.now a.codes.now c.check.ensures top_here a.layer c.refusal-no.ensures c.if-no-ne0.false
+    c.named-n.ensures a.idx c.if-layer-top.false c.word-2.ensures

@@ -9,8 +9,5 @@ returns-then-no-ne0 c =
 
 pub returns : goal.returns
 returns c =
-    let t = c.before in
-    let g = t.before in
-    let e = g.before in
-    let a = e.args in
-    formula_empty_is a.s0.now a.s1.now a.s2.now a.s3.now a.codes.now e.check-no.ensures e.if-no-ne0.false g.named-n.ensures t.top.ensures c.word.ensures
+    let a = c.args in
+    formula_empty_is a.s0.now a.s1.now a.s2.now a.s3.now a.codes.now c.check-no.ensures c.if-no-ne0.false c.named-n.ensures c.top.ensures c.word.ensures

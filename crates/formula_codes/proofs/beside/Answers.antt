@@ -3,4 +3,4 @@ use Rattle.formula_codes.proofs.Answers.{beside_none}
 use Rattle.formula_codes.proofs.beside.Goals as goal
 
 pub returns-then-s-eq0 : goal.returns-then-s-eq0
-returns-then-s-eq0 c = let a = c.args in beside_none a.n a.s.now c.if-s-eq0.true
+returns-then-s-eq0 c = beside_none c.args.n c.args.s.now c.if-s-eq0.true

@@ -1,19 +1,15 @@
 -- `is_formula` meets its contract.
 use native.Mathlib.Omega.{arith}
 use Rattle.formula_codes.specs.Tree.{four}
-use Rattle.formula_codes.proofs.Answers.{formula_none, formula_long, formula_left}
+use Rattle.formula_codes.proofs.Answers.{formula_none, formula_left}
 use Rattle.formula_codes.proofs.is_formula.Goals as goal
 
 pub returns-then-n-eq0 : goal.returns-then-n-eq0
-returns-then-n-eq0 c = let a = c.args in formula_none (four a.s0.now a.s1.now a.s2.now a.s3.now) a.codes.now c.if-n-eq0.true
-
-pub returns-then-n-gt32 : goal.returns-then-n-gt32
-returns-then-n-gt32 c =
+returns-then-n-eq0 c =
     let a = c.args in
-    formula_long (four a.s0.now a.s1.now a.s2.now a.s3.now) a.codes.now (omega (arith, c.if-n-gt32.true)) c.if-n-gt32.true
+    formula_none (four a.s0.now a.s1.now a.s2.now a.s3.now) a.codes.now c.if-n-eq0.true
 
 pub returns : goal.returns
 returns c =
-    let e = c.before.before in
-    let a = e.args in
-    formula_left (four a.s0.now a.s1.now a.s2.now a.s3.now) a.codes.now (omega (arith, e.if-n-eq0.false)) e.if-n-gt32.false c.left.ensures
+    let a = c.args in
+    formula_left (four a.s0.now a.s1.now a.s2.now a.s3.now) a.codes.now (omega (arith, c.if-n-eq0.false)) (omega arith) c.left.ensures

@@ -4,6 +4,3 @@ use Rattle.formula_fill.proofs.sink.Goals as goal
 
 pub returns-then-masks-ne0 : goal.returns-then-masks-ne0
 returns-then-masks-ne0 c = sink_none _ _ _ _ _ c.if-masks-ne0.true
-
-pub returns : goal.returns
-returns c = c.sink.ensures

@@ -8,11 +8,6 @@ use Rattle.formula_pair.proofs.read.Goals as goal
 
 pub returns : goal.returns
 returns c =
-    let w = c.before in
-    let y = w.before in
-    let x = y.before in
-    let p = x.before in
-    let s = p.before.before.before in
-    let a = s.args in
-    lowers_by (λ (k i : ℕ). joined a.code k (get_or a.a.now i 0) (get_or a.b.now i 0)) s.requires.0 s.requires.1 p.place-q.ensures
-    (w.joined-w.ensures ∙ ap₂ (joined a.code a.j) x.get.ensures y.get-2.ensures) c.handle_level.ensures
+    let a = c.args in
+    lowers_by (λ (k i : ℕ). joined a.code k (get_or a.a.now i 0) (get_or a.b.now i 0)) c.requires.0 c.requires.1 c.place-q.ensures
+    (c.joined-w.ensures ∙ ap₂ (joined a.code a.j) c.get.ensures c.get-2.ensures) c.handle_level.ensures

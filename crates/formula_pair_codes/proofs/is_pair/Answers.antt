@@ -17,8 +17,4 @@ returns-then-codes-lt16 c = no_pair _ λ p. omega (arith, c.if-codes-lt16.true, 
 
 pub returns : goal.returns
 returns c =
-    let i4 = c.before in
-    let i3 = i4.before.before in
-    let i2 = i3.before.before in
-    let i1 = i2.before.before in
-    pair_last _ i1.if-codes-ne3.false (omega (arith, i2.if-codes-gt3.false)) (omega (arith, i3.if-codes-gt3-2.false)) i4.if-codes-lt16.false
+    pair_last _ c.if-codes-ne3.false (omega (arith, c.if-codes-gt3.false)) (omega (arith, c.if-codes-gt3-2.false)) c.if-codes-lt16.false

@@ -1,6 +1,5 @@
 -- `existing` meets its contract.
-use native.Mathlib.Omega.{arith}
-use Rattle.formula_place.proofs.Spots.{exist_all, exist_none, exist_some, shift_some}
+use Rattle.formula_place.proofs.Spots.{exist_all, exist_none, exist_some}
 use Rattle.formula_place.proofs.existing.Goals as goal
 
 pub returns-then-i-whole : goal.returns-then-i-whole
@@ -8,9 +7,6 @@ returns-then-i-whole c = exist_all _ _ c.if-i-whole.true
 
 pub returns-then-whole-i : goal.returns-then-whole-i
 returns-then-whole-i c = exist_none _ _ c.if-whole-i.true
-
-pub overflow_sub-result : goal.overflow_sub-result
-overflow_sub-result c = shift_some _ (omega arith)
 
 pub returns : goal.returns
 returns c = exist_some _ _ c.if-i-whole.false c.if-whole-i.false

@@ -9,28 +9,19 @@ returns-then-masks-ne0 c = rests_at_hand top_most c.args.c c.if-masks-ne0.true
 
 pub below-requires : goal.below-requires
 below-requires c =
-    let e = c.before in
-    let l = low_one_of_three e.args.c e.if-masks-ne0.false c.if-masks-ne0-2.true in
+    let l = low_one_of_three c.args.c c.if-masks-ne0.false c.if-masks-ne0-2.true in
     (omega arith, l.0, l.1)
 
 pub below-requires-then-masks-ne0-3 : goal.below-requires-then-masks-ne0-3
 below-requires-then-masks-ne0-3 c =
-    let f = c.before in
-    let e = f.before in
-    let l = low_two_of_three e.args.c e.if-masks-ne0.false f.if-masks-ne0-2.false c.if-masks-ne0-3.true in
+    let l = low_two_of_three c.args.c c.if-masks-ne0.false c.if-masks-ne0-2.false c.if-masks-ne0-3.true in
     (omega arith, l.0, l.1)
 
 pub below-requires-then-masks-ne0-4 : goal.below-requires-then-masks-ne0-4
 below-requires-then-masks-ne0-4 c =
-    let g = c.before in
-    let f = g.before in
-    let e = f.before in
-    let l = low_three_of_three e.args.c e.if-masks-ne0.false f.if-masks-ne0-2.false g.if-masks-ne0-3.false c.if-masks-ne0-4.true in
+    let l = low_three_of_three c.args.c c.if-masks-ne0.false c.if-masks-ne0-2.false c.if-masks-ne0-3.false c.if-masks-ne0-4.true in
     (omega arith, l.0, l.1)
 
 pub returns : goal.returns
 returns c =
-    let g = c.before in
-    let f = g.before in
-    let e = f.before in
-    rests_at_the_end e.args.c e.if-masks-ne0.false f.if-masks-ne0-2.false g.if-masks-ne0-3.false c.if-masks-ne0-4.false
+    rests_at_the_end c.args.c c.if-masks-ne0.false c.if-masks-ne0-2.false c.if-masks-ne0-3.false c.if-masks-ne0-4.false

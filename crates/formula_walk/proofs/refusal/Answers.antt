@@ -9,6 +9,5 @@ returns-then-no-ne0 c =
 
 pub returns : goal.returns
 returns c =
-    let e = c.before.before in
-    let a = e.args in
-    refusal_cursor a.s0.now a.s1.now a.s2.now a.s3.now a.codes.now e.check-no.ensures a.c e.if-no-ne0.false c.named.ensures c.refusal.ensures
+    let a = c.args in
+    refusal_cursor a.s0.now a.s1.now a.s2.now a.s3.now a.codes.now c.check-no.ensures a.c c.if-no-ne0.false c.named.ensures c.refusal.ensures

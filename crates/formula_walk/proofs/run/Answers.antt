@@ -3,4 +3,4 @@ use Rattle.walk.proofs.Turns.{sink_finish}
 use Rattle.formula_walk.proofs.run.Goals as goal
 
 pub returns : goal.returns
-returns c = let k = c.before.before in sink_finish k.requires k.sink-d.ensures c.finish.ensures
+returns c = sink_finish c.requires c.sink-d.ensures c.finish.ensures

@@ -4,8 +4,6 @@ use Rattle.formula_word.proofs.word.Goals as goal
 
 pub returns : goal.returns
 returns c =
-    let t = c.before in
-    let x = t.before in
-    let a = x.args in
+    let a = c.args in
     machine_word_is a.s0.now a.s1.now a.s2.now a.s3.now a.codes.now a.n a.layer a.i
-    t.spot-at.ensures x.cut-cut.ensures c.word_at.ensures
+    c.spot-at.ensures c.cut-cut.ensures c.word_at.ensures
