@@ -1,5 +1,6 @@
 // What the bytes of a chunk map are: little-endian numbers; a word without the bits past the capacity; how long the map is.
 #![tactic(auto)]
+
 ghost use Rattle.std.specs.Prelude.{◌≡◌, ◌+◌, ◌*◌, ◌^◌, ◌%◌, ◌≤◌, leb, length, get_or};
 ghost use Rattle.store.specs.Build.{room0};
 ghost use Rattle.map_format.specs.Steps.{with_last, used_at};

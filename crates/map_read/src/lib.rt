@@ -1,5 +1,6 @@
 // The chunk map's reader: everything is checked before anything is written. Document 01, "Chunk map".
 #![tactic(auto)]
+
 ghost use Rattle.std.specs.Prelude.{◌≡◌, ◌+◌, ◌*◌, ◌≤◌, length};
 ghost use Rattle.util.specs.Outcome.{Settled};
 ghost use Rattle.store.specs.Answer.{did_paper};

@@ -1,5 +1,6 @@
 // The chunk map's writer: layer 0 as bytes. Document 01, "Chunk map".
 #![tactic(auto)]
+
 ghost use Rattle.std.specs.Prelude.{[], ◌∷◌, ◌≡◌, ◌+◌, ◌*◌, ◌≤◌, length};
 ghost use Rattle.std.proofs.lemmas.List.Edits.{sets};
 ghost use Rattle.util.specs.Outcome.{Settled};

@@ -19,7 +19,7 @@ pub returns-then-q-words_for : goal.returns-then-q-words_for
 unfolding room
 returns-then-q-words_for c =
     let asked : c.words_for.result ≡ words c.args.n =
-        let s = c.before.before in c.words_for.ensures ∙ words_are s.args.n s.requires.0 s.requires.1 in
+    c.words_for.ensures ∙ words_are c.args.n c.requires.0 c.requires.1 in
     let a = c.args in no_entry a.n a.lo a.q a.x (λ z. omega (arith, z.below, asked, c.if-q-words_for.true))
 
 pub returns-then-x-eq0 : goal.returns-then-x-eq0
@@ -28,36 +28,34 @@ returns-then-x-eq0 c = let a = c.args in no_entry a.n a.lo a.q a.x (λ z. omega 
 pub overflow_mul-room : goal.overflow_mul-room
 overflow_mul-room c =
     let asked : c.words_for.result ≡ words c.args.n =
-        let s = c.before.before in c.words_for.ensures ∙ words_are s.args.n s.requires.0 s.requires.1 in
+    c.words_for.ensures ∙ words_are c.args.n c.requires.0 c.requires.1 in
     -- past the second test the number is below the layer's words
-    let below : let a = c.args in a.q < words a.n =
-        omega (arith, asked, c.if-q-words_for.false) in
+    let below : c.args.q < words c.args.n =
+    omega (arith, asked, c.if-q-words_for.false) in
     omega (arith, below, c.requires.1)
 
 pub overflow_sub-room : goal.overflow_sub-room
 overflow_sub-room c =
     let asked : c.words_for.result ≡ words c.args.n =
-        let s = c.before.before in c.words_for.ensures ∙ words_are s.args.n s.requires.0 s.requires.1 in
+    c.words_for.ensures ∙ words_are c.args.n c.requires.0 c.requires.1 in
     -- past the second test the number is below the layer's words
-    let below : let a = c.args in a.q < words a.n =
-        omega (arith, asked, c.if-q-words_for.false) in
+    let below : c.args.q < words c.args.n =
+    omega (arith, asked, c.if-q-words_for.false) in
     omega (arith, below)
 
 pub returns-then-room-lt64 : goal.returns-then-room-lt64
 unfolding room
 returns-then-room-lt64 c =
     let asked : c.words_for.result ≡ words c.args.n =
-        let s = c.before.before in c.words_for.ensures ∙ words_are s.args.n s.requires.0 s.requires.1 in
+    c.words_for.ensures ∙ words_are c.args.n c.requires.0 c.requires.1 in
     -- past the second test the number is below the layer's words
-    let below : let a = c.args in a.q < words a.n =
-        omega (arith, asked, c.if-q-words_for.false) in
+    let below : c.args.q < words c.args.n =
+    omega (arith, asked, c.if-q-words_for.false) in
     -- past the first three tests the last one decides
     let last : let a = c.args in ltb a.x (2 ^ room0 a.n a.q) ≡ entry_ok a.n a.lo a.q a.x =
-        let l = c.before.before.before in
-        let a = l.args in
-        entry_last a.n a.lo a.q a.x (omega (arith, l.if-q-lo.false)) (omega (arith, below)) (omega (arith, c.if-x-eq0.false)) in
-    let e = c.before in
-    let a = e.args in
+    let a = c.args in
+    entry_last a.n a.lo a.q a.x (omega (arith, c.if-q-lo.false)) (omega (arith, below)) (omega (arith, c.if-x-eq0.false)) in
+    let a = c.args in
     let r : a.n - 64 * a.q ≡ room0 a.n a.q = omega (arith, c.if-room-lt64.true) in
     ap (ltb a.x) (shl_one (a.n - 64 * a.q) c.if-room-lt64.true ∙ ap (λ (k : ℕ). 2 ^ k) r) ∙ last
 
@@ -65,18 +63,15 @@ pub returns : goal.returns
 unfolding room
 returns c =
     let asked : c.words_for.result ≡ words c.args.n =
-        let s = c.before.before in c.words_for.ensures ∙ words_are s.args.n s.requires.0 s.requires.1 in
+    c.words_for.ensures ∙ words_are c.args.n c.requires.0 c.requires.1 in
     -- past the second test the number is below the layer's words
-    let below : let a = c.args in a.q < words a.n =
-        omega (arith, asked, c.if-q-words_for.false) in
+    let below : c.args.q < words c.args.n =
+    omega (arith, asked, c.if-q-words_for.false) in
     -- past the first three tests the last one decides
     let last : let a = c.args in ltb a.x (2 ^ room0 a.n a.q) ≡ entry_ok a.n a.lo a.q a.x =
-        let l = c.before.before.before in
-        let a = l.args in
-        entry_last a.n a.lo a.q a.x (omega (arith, l.if-q-lo.false)) (omega (arith, below)) (omega (arith, c.if-x-eq0.false)) in
-    let e = c.before in
-    let s = e.before.before.before.before in
-    let a = s.args in
+    let a = c.args in
+    entry_last a.n a.lo a.q a.x (omega (arith, c.if-q-lo.false)) (omega (arith, below)) (omega (arith, c.if-x-eq0.false)) in
+    let a = c.args in
     let r : 64 ≡ room0 a.n a.q = omega (arith, c.if-room-lt64.false) in
-    let l : a.x < 2 ^ 64 = omega (arith, s.ranges.x) in
+    let l : a.x < 2 ^ 64 = omega (arith, c.ranges.x) in
     sym (lt-ltb a.x (2 ^ room0 a.n a.q) (rw (← r) l)) ∙ last

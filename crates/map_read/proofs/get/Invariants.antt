@@ -1,5 +1,4 @@
 -- `get` meets its contract.
-use Prim.Native.Nat.{◌-◌}
 use Rattle.map_read.proofs.Loops.{Got}
 use Rattle.map_read.proofs.get.Given as goal
 

@@ -1,6 +1,5 @@
 -- `judge_table` meets its contract.
 use Prim.Native.Nat.{◌-◌}
-use lib.Count.{ones}
 use Rattle.map_read.proofs.Loops.{Judged}
 use Rattle.map_read.proofs.judge_table.Given as goal
 

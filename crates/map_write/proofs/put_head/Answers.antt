@@ -9,13 +9,9 @@ use Rattle.map_write.proofs.put_head.Goals as goal
 
 pub returns : goal.returns
 returns c =
-    let p4 = c.before.before in
-    let p3 = p4.before.before.before.before in
-    let p2 = p3.before.before.before.before in
-    let p1 = p2.before.before.before.before in
-    let a = p1.args in
-    p4.put_number-4.ensures
-    ∙ ap (λ (x : List ℕ). sets x 12 (le 4 16)) (p3.put_number-3.ensures
-    ∙ ap (λ (x : List ℕ). sets x 8 (le 4 a.used)) (p2.put_number-2.ensures
-    ∙ ap (λ (x : List ℕ). sets x 4 (le 4 a.members)) p1.put_number.ensures))
-    ∙ head_sets a.buf-1.now a.n a.members a.used
+    let a = c.args in
+    c.put_number-4.ensures
+    ∙ ap (λ (x : List ℕ). sets x 12 (le 4 16)) (c.put_number-3.ensures
+    ∙ ap (λ (x : List ℕ). sets x 8 (le 4 a.used)) (c.put_number-2.ensures
+    ∙ ap (λ (x : List ℕ). sets x 4 (le 4 a.members)) c.put_number.ensures))
+    ∙ head_sets a.buf.now a.n a.members a.used

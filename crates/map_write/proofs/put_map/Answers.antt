@@ -6,31 +6,21 @@ use Rattle.map_write.proofs.put_map.Goals as goal
 
 pub put_fours-f-requires : goal.put_fours-f-requires
 put_fours-f-requires c =
-    let s = c.before.before.before in
-    let n = length s.args.layer.now - 1 in
-    fours_room s.requires (4 * (n / 4)) (fours_in n)
+    let n = length c.args.layer.now - 1 in
+    fours_room c.requires (4 * (n / 4)) (fours_in n)
 
 pub put_entries-r-requires : goal.put_entries-r-requires
 put_entries-r-requires c =
-    let f = c.before.before.before in
-    let s = f.before.before.before.before in
-    let n = length s.args.layer.now - 1 in
-    rest_room s.requires (4 * (n / 4)) (fours_in n) f.put_fours-f.ensures
+    let n = length c.args.layer.now - 1 in
+    rest_room c.requires (4 * (n / 4)) (fours_in n) c.put_fours-f.ensures
 
 pub put_entry-s-requires : goal.put_entry-s-requires
 put_entry-s-requires c =
-    let r = c.before.before.before in
-    let f = r.before.before.before.before in
-    let s = f.before.before.before.before in
-    let n = length s.args.layer.now - 1 in
-    last_room s.requires (4 * (n / 4)) (fours_in n) f.put_fours-f.ensures r.put_entries-r.ensures
+    let n = length c.args.layer.now - 1 in
+    last_room c.requires (4 * (n / 4)) (fours_in n) c.put_fours-f.ensures c.put_entries-r.ensures
 
 pub returns : goal.returns
 returns c =
-    let h = c.before.before in
-    let e = h.before.before.before.before.before in
-    let r = e.before.before.before.before in
-    let f = r.before.before.before.before in
-    let s = f.before.before.before.before in
-    let n = length s.args.layer.now - 1 in
-    map_done s.requires (4 * (n / 4)) (fours_in n) f.put_fours-f.ensures r.put_entries-r.ensures e.put_entry-s.ensures s.args.n h.put_head.ensures
+    let n = length c.args.layer.now - 1 in
+    let m = map_done c.requires (4 * (n / 4)) (fours_in n) c.put_fours-f.ensures c.put_entries-r.ensures c.put_entry-s.ensures c.args.n c.put_head.ensures in
+    record { length = m.0; bytes = m.1 }

@@ -1,6 +1,8 @@
 -- `write` meets its contract.
-use mathlib.Core.Path.{◌≡◌}
+use mathlib.Core.Bool.{not}
+use mathlib.Core.Path.{◌≡◌, ap}
 use native.Mathlib.Omega.{arith}
+use borrow.Author.Rules.{rules}
 use Rattle.store.specs.Layout.{StoreOf}
 use Rattle.store.specs.Word.{Words64}
 use Rattle.store.proofs.Ends.{some_store, no_store, store_small, Lent0, lent0}
@@ -12,106 +14,74 @@ use Rattle.map_write.proofs.write.Goals as goal
 
 pub returns-then-n-eq0 : goal.returns-then-n-eq0
 returns-then-n-eq0 c =
-    let y = c.before in
-    let a = y.args in
-    write_2 a.store.now a.buf-1.now (no_store a.store.now y.capacity-n.ensures c.if-n-eq0.true)
+    let a = c.args in
+    write_2 a.store.now a.buf.now (no_store a.store.now c.capacity-n.ensures c.if-n-eq0.true)
 
 pub offset_bounds-store-start : goal.offset_bounds-store-start
 offset_bounds-store-start c =
     -- past the first test the slice is a store, of words
-    let store_here : StoreOf c.capacity-n.result c.args.store.now =
-        some_store c.args.store.now c.capacity-n.ensures c.if-n-eq0.false in
+    let store_here : StoreOf c.capacity-n.result c.args.store.now = some_store c.args.store.now c.capacity-n.ensures c.if-n-eq0.false in
     -- layer 0 is lent as the store's end
-    let lent_here : let e = c.before in Lent0 e.capacity-n.result e.args.store.now c.start-start.result =
-        lent0 store_here c.start-start.ensures in
-    omega (arith, (lent_here).inside, store_small store_here)
+    let lent_here : Lent0 c.capacity-n.result c.args.store.now c.start-start.result = lent0 store_here c.start-start.ensures in
+    omega (arith, lent_here.inside, store_small store_here)
 
 pub slice_bounds-layer-count : goal.slice_bounds-layer-count
 slice_bounds-layer-count c =
     -- past the first test the slice is a store, of words
-    let store_here : StoreOf c.capacity-n.result c.args.store.now =
-        some_store c.args.store.now c.capacity-n.ensures c.if-n-eq0.false in
+    let store_here : StoreOf c.capacity-n.result c.args.store.now = some_store c.args.store.now c.capacity-n.ensures c.if-n-eq0.false in
     -- layer 0 is lent as the store's end
-    let lent_here : let e = c.before in Lent0 e.capacity-n.result e.args.store.now c.start-start.result =
-        lent0 store_here c.start-start.ensures in
-    (lent_here).inside
+    let lent_here : Lent0 c.capacity-n.result c.args.store.now c.start-start.result = lent0 store_here c.start-start.ensures in
+    lent_here.inside
 
 pub slice_bounds-layer-start : goal.slice_bounds-layer-start
 slice_bounds-layer-start c =
     -- past the first test the slice is a store, of words
-    let store_here : StoreOf c.capacity-n.result c.args.store.now =
-        some_store c.args.store.now c.capacity-n.ensures c.if-n-eq0.false in
+    let store_here : StoreOf c.capacity-n.result c.args.store.now = some_store c.args.store.now c.capacity-n.ensures c.if-n-eq0.false in
     -- layer 0 is lent as the store's end
-    let lent_here : let e = c.before in Lent0 e.capacity-n.result e.args.store.now c.start-start.result =
-        lent0 store_here c.start-start.ensures in
-    (lent_here).inside
+    let lent_here : Lent0 c.capacity-n.result c.args.store.now c.start-start.result = lent0 store_here c.start-start.ensures in
+    lent_here.inside
 
 pub overflow_sub-layer : goal.overflow_sub-layer
 overflow_sub-layer c =
     -- past the first test the slice is a store, of words
-    let store_here : StoreOf c.capacity-n.result c.args.store.now =
-        some_store c.args.store.now c.capacity-n.ensures c.if-n-eq0.false in
+    let store_here : StoreOf c.capacity-n.result c.args.store.now = some_store c.args.store.now c.capacity-n.ensures c.if-n-eq0.false in
     -- layer 0 is lent as the store's end
-    let lent_here : let e = c.before in Lent0 e.capacity-n.result e.args.store.now c.start-start.result =
-        lent0 store_here c.start-start.ensures in
-    let a = c.before in some_lent store_here lent_here
+    let lent_here : Lent0 c.capacity-n.result c.args.store.now c.start-start.result = lent0 store_here c.start-start.ensures in
+    some_lent store_here lent_here
 
 pub returns-then-not-map_fits : goal.returns-then-not-map_fits
 returns-then-not-map_fits c =
     -- past the first test the slice is a store, of words
-    let store_here : StoreOf c.capacity-n.result c.args.store.now =
-        some_store c.args.store.now c.capacity-n.ensures c.if-n-eq0.false in
-    let small : Words64 c.args.store.now =
-        λ x. omega (arith, c.shared_slice_known-1.given x) in
+    let store_here : StoreOf c.capacity-n.result c.args.store.now = some_store c.args.store.now c.capacity-n.ensures c.if-n-eq0.false in
     -- layer 0 is lent as the store's end
-    let lent_here : let e = c.before in Lent0 e.capacity-n.result e.args.store.now c.start-start.result =
-        lent0 store_here c.start-start.ensures in
+    let lent_here : Lent0 c.capacity-n.result c.args.store.now c.start-start.result = lent0 store_here c.start-start.ensures in
+    let small : Words64 c.args.store.now = λ x. search rules in
     -- the words that the code works on are those of the definition
-    let words_here : let a = c.before.before in let y = a.before.before in let s = y.args.store.now in with_last (lent s a.start-start.result) c.kept_word-last.result ≡ told_words y.capacity-n.result s =
-        let a = c.before.before in
-        layer_words_are store_here lent_here (small) c.kept_word-last.ensures in
-    let r = c.before in
-    let e = r.before.before.before.before in
-    write_8 store_here e.args.buf-1.now words_here r.map_fits.ensures c.if-not-map_fits.true
+    let words_here : with_last (lent c.args.store.now c.start-start.result) c.kept_word-last.result ≡ told_words c.capacity-n.result c.args.store.now =
+    layer_words_are store_here lent_here small c.kept_word-last.ensures in
+    write_8 store_here c.args.buf.now words_here c.map_fits.ensures (ap not c.if-not-map_fits.true)
 
 pub put_map-end-requires : goal.put_map-end-requires
 put_map-end-requires c =
     -- past the first test the slice is a store, of words
-    let store_here : StoreOf c.capacity-n.result c.args.store.now =
-        some_store c.args.store.now c.capacity-n.ensures c.if-n-eq0.false in
+    let store_here : StoreOf c.capacity-n.result c.args.store.now = some_store c.args.store.now c.capacity-n.ensures c.if-n-eq0.false in
     -- layer 0 is lent as the store's end
-    let lent_here : let e = c.before in Lent0 e.capacity-n.result e.args.store.now c.start-start.result =
-        lent0 store_here c.start-start.ensures in
-    let small : Words64 c.args.store.now =
-        λ x. omega (arith, c.shared_slice_known-1.given x) in
+    let lent_here : Lent0 c.capacity-n.result c.args.store.now c.start-start.result = lent0 store_here c.start-start.ensures in
+    let small : Words64 c.args.store.now = λ x. search rules in
     -- the words that the code works on are those of the definition
-    let words_here : let a = c.before.before in let y = a.before.before in let s = y.args.store.now in with_last (lent s a.start-start.result) c.kept_word-last.result ≡ told_words y.capacity-n.result s =
-        let a = c.before.before in
-        layer_words_are store_here lent_here (small) c.kept_word-last.ensures in
-    let f = c.before in
-    let r = f.before in
-    let a = r.before.before.before in
-    let e = a.before in
-    let z = store_here in
-    fits z lent_here r.kept_word-last.result
-    (write_room z e.args.buf-1.now words_here r.map_fits.ensures f.if-not-map_fits.false)
+    let words_here : with_last (lent c.args.store.now c.start-start.result) c.kept_word-last.result ≡ told_words c.capacity-n.result c.args.store.now =
+    layer_words_are store_here lent_here small c.kept_word-last.ensures in
+    fits store_here lent_here c.kept_word-last.result
+    (write_room store_here c.args.buf.now words_here c.map_fits.ensures (ap not c.if-not-map_fits.false))
 
 pub returns : goal.returns
 returns c =
     -- past the first test the slice is a store, of words
-    let store_here : StoreOf c.capacity-n.result c.args.store.now =
-        some_store c.args.store.now c.capacity-n.ensures c.if-n-eq0.false in
-    let small : Words64 c.args.store.now =
-        λ x. omega (arith, c.shared_slice_known-1.given x) in
+    let store_here : StoreOf c.capacity-n.result c.args.store.now = some_store c.args.store.now c.capacity-n.ensures c.if-n-eq0.false in
     -- layer 0 is lent as the store's end
-    let lent_here : let e = c.before in Lent0 e.capacity-n.result e.args.store.now c.start-start.result =
-        lent0 store_here c.start-start.ensures in
+    let lent_here : Lent0 c.capacity-n.result c.args.store.now c.start-start.result = lent0 store_here c.start-start.ensures in
+    let small : Words64 c.args.store.now = λ x. search rules in
     -- the words that the code works on are those of the definition
-    let words_here : let a = c.before.before in let y = a.before.before in let s = y.args.store.now in with_last (lent s a.start-start.result) c.kept_word-last.result ≡ told_words y.capacity-n.result s =
-        let a = c.before.before in
-        layer_words_are store_here lent_here (small) c.kept_word-last.ensures in
-    let p = c.before.before in
-    let f = p.before.before in
-    let r = f.before in
-    let e = r.before.before.before.before in
-    write_done store_here e.args.buf-1.now words_here r.map_fits.ensures f.if-not-map_fits.false p.put_map-end.ensures
+    let words_here : with_last (lent c.args.store.now c.start-start.result) c.kept_word-last.result ≡ told_words c.capacity-n.result c.args.store.now =
+    layer_words_are store_here lent_here small c.kept_word-last.ensures in
+    write_done store_here c.args.buf.now words_here c.map_fits.ensures (ap not c.if-not-map_fits.false) (c.put_map-end.ensures.length, c.put_map-end.ensures.bytes)
