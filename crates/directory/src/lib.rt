@@ -1,6 +1,7 @@
 // The container writer's directory: chunks given to items and taken back, over one store and one owner byte per chunk, which are always lent
 // together. It leans on the promises of the set alone.
 #![tactic(auto)]
+
 ghost use Rattle.std.specs.Prelude.{◌≡◌, ◌<◌, length, replicate, set};
 ghost use Rattle.util.specs.Outcome.{Settled};
 ghost use Rattle.store.specs.Answer.{did_paper, found_paper};

@@ -8,7 +8,4 @@ returns-then-no-ne0 c = directory-refused _ _ c.judge_open-no.ensures c.if-no-ne
 
 pub returns : goal.returns
 returns c =
-    let z = c.before.before in
-    let o = z.before.before.before.before in
-    let e = o.before.before in
-    directory_done _ _ (sym e.judge_open-no.ensures ∙ e.if-no-ne0.false) _ _ o.«open».ensures.memory z.zero.ensures
+    directory_done _ _ (sym c.judge_open-no.ensures ∙ c.if-no-ne0.false) _ _ c.«open».ensures.memory c.zero.ensures

@@ -1,7 +1,6 @@
 -- `take_back` meets its contract.
-use mathlib.Core.Path.{◌≡◌, sym, ◌∙◌}
+use mathlib.Core.Path.{sym, ◌∙◌}
 use native.Mathlib.Omega.{arith}
-use Rattle.directory.specs.Calls.{directory, return_refusal}
 use Rattle.directory.proofs.Answers.{returned, take-refused, take_done}
 use Rattle.directory.proofs.take_back.Goals as goal
 
@@ -11,14 +10,11 @@ returns-then-no-ne0 c = take-refused _ _ _ c.judge_return-no.ensures c.if-no-ne0
 pub release-requires : goal.release-requires
 release-requires c =
     -- past the test nothing stands in the way
-    let goes_on : let a = c.args in return_refusal (directory a.store-1.now a.owners-1.now) a.item a.chunk ≡ 0 =
-        sym c.judge_return-no.ensures ∙ c.if-no-ne0.false in
-    let k = returned _ _ _ goes_on in omega (arith, k.below, k.judged.long)
+    let goes_on = sym c.judge_return-no.ensures ∙ c.if-no-ne0.false in
+    let k = returned _ _ _ goes_on in
+    omega arith
 
 pub returns : goal.returns
 returns c =
-    -- past the test nothing stands in the way
-    let goes_on : let a = c.args in return_refusal (directory a.store-1.now a.owners-1.now) a.item a.chunk ≡ 0 =
-        sym c.judge_return-no.ensures ∙ c.if-no-ne0.false in
-    let m = c.before.before.before.before in
-    take_done _ _ _ goes_on _ _ m.release.ensures.0 m.release.ensures.1
+    let goes_on = sym c.judge_return-no.ensures ∙ c.if-no-ne0.false in
+    take_done _ _ _ goes_on _ _ c.release.ensures.0 c.release.ensures.1
