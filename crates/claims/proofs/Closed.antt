@@ -19,7 +19,7 @@ use Rattle.ops_merge.specs.Calls.{Assigned}
 use Rattle.directory.specs.Calls.{Directory, directory, room_refusal, item_refusal, return_refusal, directory_open_of, give_of, take_back_of}
 use Rattle.directory.proofs.Answers.{room_in}
 use Rattle.claims.specs.Calls.{Answered, Memory, Meets, Call, promise_of}
-use Rattle.claims.specs.Calls.Call.{«open», add, remove, contains, add_list, is_empty, clear, containsSet, equal, get_from_layer, layer_as_slice, average_ones, firstFree, isSound, rebuild, bitorAssign, bitandAssign, bitxorAssign, start, next, fill, contains_f, is_empty_f, get_from_layer_f, start_f, next_f, fill_f, write, read, map_length, map_capacity, open_directory, give, take_back, iter_r, next_r, first_r}
+use Rattle.claims.specs.Calls.Call.{«open», add, remove, contains, add_list, is_empty, clear, contains_set, equal, get_from_layer, layer_as_slice, average_ones, first_free, is_sound, rebuild, bitor_assign, bitand_assign, bitxor_assign, start, next, fill, contains_f, is_empty_f, get_from_layer_f, start_f, next_f, fill_f, write, read, map_length, map_capacity, open_directory, give, take_back, iter_r, next_r, first_r}
 use Rattle.claims.specs.Reached.{OneCall, Reached}
 use Rattle.claims.specs.Reached.OneCall.{adds, removes, lists, clears, rebuilds, merges, reads}
 use Rattle.claims.specs.Reached.Reached.{opened, after}
@@ -30,8 +30,8 @@ use Rattle.claims.proofs.Histories.{fine_open, fine_one, reached_fine}
 -- what is had by every opened store, is handed on by one call, and is sound
 record Inherited (P : ℕ → List ℕ → Type 0) : Type 0 where
   opened_has : {N : ℕ} (s : List ℕ) → 1 ≤ N → N ≤ max_cap → length s ≡ store_len N → P N (open_of s N).lent
-  handed-on : {N : ℕ} {s u : List ℕ} → P N s → OneCall N s u → P N u
-  is_sound_lem : {N : ℕ} {s : List ℕ} → P N s → SoundStore N s
+  handed_on : {N : ℕ} {s u : List ℕ} → P N s → OneCall N s u → P N u
+  is_sound : {N : ℕ} {s : List ℕ} → P N s → SoundStore N s
 
 -- an opening that is refused leaves what was there
 open_keeps : (s : List ℕ) (n : ℕ) → opens s n ≡ false → (open_of s n).lent ≡ s
@@ -40,14 +40,14 @@ open_keeps s n h = rw h
 
 module _ {P : ℕ → List ℕ → Type 0} (k : Inherited P) where
   one_left : {N : ℕ} {s u y : List ℕ} → y ≡ u → P N s → OneCall N s u → P N y × Unit {0}
-  one_left {N} e p c = (subst (P N) (sym e) (k.handed-on p c), tt)
+  one_left {N} e p c = (subst (P N) (sym e) (k.handed_on p c), tt)
 
   merge_left : {N M op : ℕ} {s t u : List ℕ} {r : Did} → Assigned op s t r u → P N s → P M t → P N u × Unit {0}
-  merge_left v p q = (k.handed-on p (merges (k.is-sound q) _ v), tt)
+  merge_left v p q = (k.handed_on p (merges (k.is_sound q) _ v), tt)
 
   -- an opening that goes through leaves a new store
   new-left : (s : List ℕ) (n : ℕ) → open_refusal n (length s) ≡ 0 → P n (open_of s n).lent
-  new-left s n h = let c = can_open_lem n (length s) h in let room = cap_in_lem n c.0 in k.opened-has s room.0 room.1 c.1
+  new-left s n h = let c = can_open_lem n (length s) h in let room = cap_in_lem n c.0 in k.opened_has s room.0 room.1 c.1
 
   -- open leaves a new store where it goes through, and what was there where it refuses
   open_left : (s : List ℕ) (n : ℕ) {y : List ℕ} → y ≡ (open_of s n).lent → Each P (lent_to («open» s n)) → Each P (left_by («open» s n) y)
@@ -76,11 +76,11 @@ module _ {P : ℕ → List ℕ → Type 0} (k : Inherited P) where
   unfolding give_of
   give_left d x p =
       let f = first_free_of d.store in
-      by_cond (LeftOf d) (eqb (item_refusal d x) 0) (by_cond (LeftOf d) (eqb (refusal_number f) 0) (k.handed-on p (adds (value_of f))) p) p
+      by_cond (LeftOf d) (eqb (item_refusal d x) 0) (by_cond (LeftOf d) (eqb (refusal_number f) 0) (k.handed_on p (adds (value_of f))) p) p
 
   take_left : (d : Directory) (x i : ℕ) → P (cap d.store) d.store → LeftOf d (take_back_of d x i)
   unfolding take_back_of
-  take_left d x i p = by_cond (LeftOf d) (eqb (return_refusal d x i) 0) (k.handed-on p (removes i)) p
+  take_left d x i p = by_cond (LeftOf d) (eqb (return_refusal d x i) 0) (k.handed_on p (removes i)) p
 
   store_left : {N : ℕ} {y u : Directory} → y ≡ u → P N u.store → P N y.store × Unit {0}
   store_left {N} q p = (subst (λ (z : Directory). P N z.store) (sym q) p, tt)
@@ -95,17 +95,17 @@ module _ {P : ℕ → List ℕ → Type 0} (k : Inherited P) where
   calls_leave (add_list s ids) r y m e = one_left m.memory e.0 (lists ids)
   calls_leave (is_empty s) r y m e = tt
   calls_leave (clear s) r y m e = one_left m.memory e.0 clears
-  calls_leave (containsSet s t) r y m e = tt
+  calls_leave (contains_set s t) r y m e = tt
   calls_leave (equal s t) r y m e = tt
   calls_leave (get_from_layer s k i) r y m e = tt
   calls_leave (layer_as_slice s k) r y m e = tt
   calls_leave (average_ones w) r y m e = tt
-  calls_leave (firstFree s) r y m e = tt
-  calls_leave (isSound s) r y m e = tt
+  calls_leave (first_free s) r y m e = tt
+  calls_leave (is_sound s) r y m e = tt
   calls_leave (rebuild s) r y m e = one_left m.memory e.0 rebuilds
-  calls_leave (bitorAssign s t) r y m e = merge_left m e.0 e.1.0
-  calls_leave (bitandAssign s t) r y m e = merge_left m e.0 e.1.0
-  calls_leave (bitxorAssign s t) r y m e = merge_left m e.0 e.1.0
+  calls_leave (bitor_assign s t) r y m e = merge_left m e.0 e.1.0
+  calls_leave (bitand_assign s t) r y m e = merge_left m e.0 e.1.0
+  calls_leave (bitxor_assign s t) r y m e = merge_left m e.0 e.1.0
   calls_leave (start s c) r y m e = tt
   calls_leave (next s c b) r y m e = tt
   calls_leave (fill s c b out) r y m e = tt
@@ -130,9 +130,9 @@ module _ {P : ℕ → List ℕ → Type 0} (k : Inherited P) where
 -- it went through or refused
 pub reached_closed : (c : Call) (r : Answered (promise_of c)) (y : Memory (promise_of c)) → Meets (promise_of c) r y
     → Each Reached (lent_to c) → Each Reached (left_by c y)
-reached_closed = calls_leave (record { opened_has = opened; handed-on = after; is_sound_lem = reached_fine })
+reached_closed = calls_leave (record { opened_has = opened; handed_on = after; is_sound = reached_fine })
 
 -- "ALL CALLS KEEP SOUNDNESS where every store lent to them is sound."
 pub sound_closed : (c : Call) (r : Answered (promise_of c)) (y : Memory (promise_of c)) → Meets (promise_of c) r y
     → Each SoundStore (lent_to c) → Each SoundStore (left_by c y)
-sound_closed = calls_leave (record { opened_has = fine_open; handed-on = fine_one; is_sound_lem = λ f. f })
+sound_closed = calls_leave (record { opened_has = fine_open; handed_on = fine_one; is_sound = λ f. f })

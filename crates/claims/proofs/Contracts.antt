@@ -8,173 +8,173 @@ use types.Logic.{Logic}
 use seplogic.Ra.Ura.{Ura}
 use prog.Memory.{Memory}
 use prog.Routine.{Routine}
-use Rattle.average.proofs.average_ones.Reads.{Asked as averageOnes-asks, Learnt as averageOnes-tells}
-use Rattle.set_member.proofs.contains.Reads.{Asked as contains-asks, Learnt as contains-tells}
-use Rattle.set_edit.proofs.add.Reads.{Asked as add-asks, Learnt as add-tells}
-use Rattle.set_edit.proofs.add_list.Reads.{Asked as addList-asks, Learnt as addList-tells}
-use Rattle.set_edit.proofs.remove.Reads.{Asked as remove-asks, Learnt as remove-tells}
-use Rattle.set_whole.proofs.clear.Reads.{Asked as clear-asks, Learnt as clear-tells}
-use Rattle.set_whole.proofs.equal.Reads.{Asked as equal-asks, Learnt as equal-tells}
-use Rattle.set_whole.proofs.is_empty.Reads.{Asked as isEmpty-asks, Learnt as isEmpty-tells}
-use Rattle.set_whole.proofs.«open».Reads.{Asked as open-asks, Learnt as open-tells}
+use Rattle.average.proofs.average_ones.Reads.{Asked as average_ones_asks, Learnt as average_ones_tells}
+use Rattle.set_member.proofs.contains.Reads.{Asked as contains_asks, Learnt as contains_tells}
+use Rattle.set_edit.proofs.add.Reads.{Asked as add_asks, Learnt as add_tells}
+use Rattle.set_edit.proofs.add_list.Reads.{Asked as add_list_asks, Learnt as add_list_tells}
+use Rattle.set_edit.proofs.remove.Reads.{Asked as remove_asks, Learnt as remove_tells}
+use Rattle.set_whole.proofs.clear.Reads.{Asked as clear_asks, Learnt as clear_tells}
+use Rattle.set_whole.proofs.equal.Reads.{Asked as equal_asks, Learnt as equal_tells}
+use Rattle.set_whole.proofs.is_empty.Reads.{Asked as is_empty_asks, Learnt as is_empty_tells}
+use Rattle.set_whole.proofs.«open».Reads.{Asked as open_asks, Learnt as open_tells}
 use Rattle.set_layers.specs.Calls.{OwnPart}
-use Rattle.set_layers.proofs.get_from_layer.Reads.{Asked as getFromLayer-asks, Learnt as getFromLayer-tells}
-use Rattle.set_layers.proofs.layer0_as_slice.Reads.{Asked as layer0-asks, Learnt as layer0-tells}
-use Rattle.set_layers.proofs.layer1_as_slice.Reads.{Asked as layer1-asks, Learnt as layer1-tells}
-use Rattle.set_layers.proofs.layer2_as_slice.Reads.{Asked as layer2-asks, Learnt as layer2-tells}
-use Rattle.set_free.proofs.first_free.Reads.{Asked as firstFree-asks, Learnt as firstFree-tells}
-use Rattle.set_superset.proofs.contains_set.Reads.{Asked as containsSet-asks, Learnt as containsSet-tells}
-use Rattle.summary.proofs.is_sound.Reads.{Asked as isSound-asks, Learnt as isSound-tells}
-use Rattle.summary.proofs.rebuild.Reads.{Asked as rebuild-asks, Learnt as rebuild-tells}
+use Rattle.set_layers.proofs.get_from_layer.Reads.{Asked as get_from_layer_asks, Learnt as get_from_layer_tells}
+use Rattle.set_layers.proofs.layer0_as_slice.Reads.{Asked as layer0_asks, Learnt as layer0_tells}
+use Rattle.set_layers.proofs.layer1_as_slice.Reads.{Asked as layer1_asks, Learnt as layer1_tells}
+use Rattle.set_layers.proofs.layer2_as_slice.Reads.{Asked as layer2_asks, Learnt as layer2_tells}
+use Rattle.set_free.proofs.first_free.Reads.{Asked as first_free_asks, Learnt as first_free_tells}
+use Rattle.set_superset.proofs.contains_set.Reads.{Asked as contains_set_asks, Learnt as contains_set_tells}
+use Rattle.summary.proofs.is_sound.Reads.{Asked as is_sound_asks, Learnt as is_sound_tells}
+use Rattle.summary.proofs.rebuild.Reads.{Asked as rebuild_asks, Learnt as rebuild_tells}
 use Rattle.walk.specs.Calls.{next_in}
-use Rattle.walk.proofs.Cursor.next.Reads.{Asked as next-asks, Learnt as next-tells}
-use Rattle.walk.proofs.Cursor.start.Reads.{Asked as start-asks, Learnt as start-tells}
-use Rattle.walk_fill.proofs.fill.Reads.{Asked as fill-asks, Learnt as fill-tells}
+use Rattle.walk.proofs.Cursor.next.Reads.{Asked as next_asks, Learnt as next_tells}
+use Rattle.walk.proofs.Cursor.start.Reads.{Asked as start_asks, Learnt as start_tells}
+use Rattle.walk_fill.proofs.fill.Reads.{Asked as fill_asks, Learnt as fill_tells}
 use Rattle.walk_batches.specs.Calls.{started_of}
 use Rattle.walk_reader.specs.Readers.{told}
-use Rattle.walk_reader.proofs.first.Reads.{Asked as firstR-asks, Learnt as firstR-tells}
+use Rattle.walk_reader.proofs.first.Reads.{Asked as first_r_asks, Learnt as first_r_tells}
 use Rattle.walk_reader.specs.contracts.iter as iter
 use Rattle.walk_reader.specs.contracts.next as next_of
 use Rattle.formula_codes.specs.Tree.{four}
-use Rattle.formula_ask.proofs.contains.Reads.{Asked as containsF-asks, Learnt as containsF-tells}
-use Rattle.formula_ask.proofs.get_from_layer.Reads.{Asked as getFromLayerF-asks, Learnt as getFromLayerF-tells}
-use Rattle.formula_ask.proofs.is_empty.Reads.{Asked as isEmptyF-asks, Learnt as isEmptyF-tells}
-use Rattle.formula_walk.proofs.next.Reads.{Asked as nextF-asks, Learnt as nextF-tells}
-use Rattle.formula_walk.proofs.start.Reads.{Asked as startF-asks, Learnt as startF-tells}
-use Rattle.formula_fill.proofs.fill.Reads.{Asked as fillF-asks, Learnt as fillF-tells}
-use Rattle.ops.proofs.bitand_assign.Reads.{Asked as bitandAssign-asks, Learnt as bitandAssign-tells}
-use Rattle.ops.proofs.bitor_assign.Reads.{Asked as bitorAssign-asks, Learnt as bitorAssign-tells}
-use Rattle.ops.proofs.bitxor_assign.Reads.{Asked as bitxorAssign-asks, Learnt as bitxorAssign-tells}
-use Rattle.map_write.proofs.write.Reads.{Asked as write-asks, Learnt as write-tells}
-use Rattle.map_write.proofs.length.Reads.{Asked as mapLength-asks, Learnt as mapLength-tells}
-use Rattle.map_read.proofs.capacity.Reads.{Asked as mapCapacity-asks, Learnt as mapCapacity-tells}
-use Rattle.map_read.proofs.read.Reads.{Asked as read-asks, Learnt as read-tells}
+use Rattle.formula_ask.proofs.contains.Reads.{Asked as contains_f_asks, Learnt as contains_f_tells}
+use Rattle.formula_ask.proofs.get_from_layer.Reads.{Asked as get_from_layer_f_asks, Learnt as get_from_layer_f_tells}
+use Rattle.formula_ask.proofs.is_empty.Reads.{Asked as is_empty_f_asks, Learnt as is_empty_f_tells}
+use Rattle.formula_walk.proofs.next.Reads.{Asked as next_f_asks, Learnt as next_f_tells}
+use Rattle.formula_walk.proofs.start.Reads.{Asked as start_f_asks, Learnt as start_f_tells}
+use Rattle.formula_fill.proofs.fill.Reads.{Asked as fill_f_asks, Learnt as fill_f_tells}
+use Rattle.ops.proofs.bitand_assign.Reads.{Asked as bitand_assign_asks, Learnt as bitand_assign_tells}
+use Rattle.ops.proofs.bitor_assign.Reads.{Asked as bitor_assign_asks, Learnt as bitor_assign_tells}
+use Rattle.ops.proofs.bitxor_assign.Reads.{Asked as bitxor_assign_asks, Learnt as bitxor_assign_tells}
+use Rattle.map_write.proofs.write.Reads.{Asked as write_asks, Learnt as write_tells}
+use Rattle.map_write.proofs.length.Reads.{Asked as map_length_asks, Learnt as map_length_tells}
+use Rattle.map_read.proofs.capacity.Reads.{Asked as map_capacity_asks, Learnt as map_capacity_tells}
+use Rattle.map_read.proofs.read.Reads.{Asked as read_asks, Learnt as read_tells}
 use Rattle.directory.specs.Calls.{directory}
-use Rattle.directory.proofs.give.Reads.{Asked as give-asks, Learnt as give-tells}
-use Rattle.directory.proofs.open.Reads.{Asked as openDirectory-asks, Learnt as openDirectory-tells}
-use Rattle.directory.proofs.take_back.Reads.{Asked as takeBack-asks, Learnt as takeBack-tells}
+use Rattle.directory.proofs.give.Reads.{Asked as give_asks, Learnt as give_tells}
+use Rattle.directory.proofs.open.Reads.{Asked as open_directory_asks, Learnt as open_directory_tells}
+use Rattle.directory.proofs.take_back.Reads.{Asked as take_back_asks, Learnt as take_back_tells}
 use Rattle.claims.specs.Calls.{Meets, promise_of, Moves}
-use Rattle.claims.specs.Calls.Call.{«open», add, remove, contains, add_list, is_empty, clear, containsSet, equal, get_from_layer, average_ones, firstFree, isSound, rebuild, bitorAssign, bitandAssign, bitxorAssign, start, next, fill, contains_f, is_empty_f, get_from_layer_f, start_f, next_f, fill_f, write, read, map_length, map_capacity, open_directory, give, take_back, iter_r}
+use Rattle.claims.specs.Calls.Call.{«open», add, remove, contains, add_list, is_empty, clear, contains_set, equal, get_from_layer, average_ones, first_free, is_sound, rebuild, bitor_assign, bitand_assign, bitxor_assign, start, next, fill, contains_f, is_empty_f, get_from_layer_f, start_f, next_f, fill_f, write, read, map_length, map_capacity, open_directory, give, take_back, iter_r}
 
 -- ---- calls on one store
 
-pub open_promised : (open-asks ≡ λ κs a. Unit {0}) × (open-tells ≡ λ κs a z e. Meets (promise_of («open» a.0.now a.1.0)) z e.0.now)
+pub open_promised : (open_asks ≡ λ κs a. Unit {0}) × (open_tells ≡ λ κs a z e. Meets (promise_of («open» a.0.now a.1.0)) z e.0.now)
 open_promised = (refl, refl)
 
-pub add_promised : (add-asks ≡ λ κs a. Unit {0}) × (add-tells ≡ λ κs a z e. Meets (promise_of (add a.0.now a.1.0)) z e.0.now)
+pub add_promised : (add_asks ≡ λ κs a. Unit {0}) × (add_tells ≡ λ κs a z e. Meets (promise_of (add a.0.now a.1.0)) z e.0.now)
 add_promised = (refl, refl)
 
-pub remove_promised : (remove-asks ≡ λ κs a. Unit {0}) × (remove-tells ≡ λ κs a z e. Meets (promise_of (remove a.0.now a.1.0)) z e.0.now)
+pub remove_promised : (remove_asks ≡ λ κs a. Unit {0}) × (remove_tells ≡ λ κs a z e. Meets (promise_of (remove a.0.now a.1.0)) z e.0.now)
 remove_promised = (refl, refl)
 
-pub contains_promised : (contains-asks ≡ λ κs a. Unit {0}) × (contains-tells ≡ λ κs a z e. Meets (promise_of (contains a.0.now a.1.0)) z tt)
+pub contains_promised : (contains_asks ≡ λ κs a. Unit {0}) × (contains_tells ≡ λ κs a z e. Meets (promise_of (contains a.0.now a.1.0)) z tt)
 contains_promised = (refl, refl)
 
-pub add_list_promised : (addList-asks ≡ λ κs a. Unit {0}) × (addList-tells ≡ λ κs a z e. Meets (promise_of (add_list a.0.now a.1.0.now)) z e.0.now)
+pub add_list_promised : (add_list_asks ≡ λ κs a. Unit {0}) × (add_list_tells ≡ λ κs a z e. Meets (promise_of (add_list a.0.now a.1.0.now)) z e.0.now)
 add_list_promised = (refl, refl)
 
-pub is_empty_promised : (isEmpty-asks ≡ λ κs a. Unit {0}) × (isEmpty-tells ≡ λ κs a z e. Meets (promise_of (is_empty a.0.now)) z tt)
+pub is_empty_promised : (is_empty_asks ≡ λ κs a. Unit {0}) × (is_empty_tells ≡ λ κs a z e. Meets (promise_of (is_empty a.0.now)) z tt)
 is_empty_promised = (refl, refl)
 
-pub clear_promised : (clear-asks ≡ λ κs a. Unit {0}) × (clear-tells ≡ λ κs a z e. Meets (promise_of (clear a.0.now)) z e.0.now)
+pub clear_promised : (clear_asks ≡ λ κs a. Unit {0}) × (clear_tells ≡ λ κs a z e. Meets (promise_of (clear a.0.now)) z e.0.now)
 clear_promised = (refl, refl)
 
-pub contains_set_promised : (containsSet-asks ≡ λ κs a. Unit {0}) × (containsSet-tells ≡ λ κs a z e. Meets (promise_of (containsSet a.0.now a.1.0.now)) z tt)
+pub contains_set_promised : (contains_set_asks ≡ λ κs a. Unit {0}) × (contains_set_tells ≡ λ κs a z e. Meets (promise_of (contains_set a.0.now a.1.0.now)) z tt)
 contains_set_promised = (refl, refl)
 
-pub equal_promised : (equal-asks ≡ λ κs a. Unit {0}) × (equal-tells ≡ λ κs a z e. Meets (promise_of (equal a.0.now a.1.0.now)) z tt)
+pub equal_promised : (equal_asks ≡ λ κs a. Unit {0}) × (equal_tells ≡ λ κs a z e. Meets (promise_of (equal a.0.now a.1.0.now)) z tt)
 equal_promised = (refl, refl)
 
-pub get_from_layer_promised : (getFromLayer-asks ≡ λ κs a. Unit {0}) × (getFromLayer-tells ≡ λ κs a z e. Meets (promise_of (get_from_layer a.0.now a.1.0 a.1.1.0)) z tt)
+pub get_from_layer_promised : (get_from_layer_asks ≡ λ κs a. Unit {0}) × (get_from_layer_tells ≡ λ κs a z e. Meets (promise_of (get_from_layer a.0.now a.1.0 a.1.1.0)) z tt)
 get_from_layer_promised = (refl, refl)
 
-pub average_ones_promised : (averageOnes-asks ≡ λ κs a. Unit {0}) × (averageOnes-tells ≡ λ κs a z e. Meets (promise_of (average_ones a.0)) z tt)
+pub average_ones_promised : (average_ones_asks ≡ λ κs a. Unit {0}) × (average_ones_tells ≡ λ κs a z e. Meets (promise_of (average_ones a.0)) z tt)
 average_ones_promised = (refl, refl)
 
-pub first_free_promised : (firstFree-asks ≡ λ κs a. Unit {0}) × (firstFree-tells ≡ λ κs a z e. Meets (promise_of (firstFree a.0.now)) z tt)
+pub first_free_promised : (first_free_asks ≡ λ κs a. Unit {0}) × (first_free_tells ≡ λ κs a z e. Meets (promise_of (first_free a.0.now)) z tt)
 first_free_promised = (refl, refl)
 
-pub is_sound_promised : (isSound-asks ≡ λ κs a. Unit {0}) × (isSound-tells ≡ λ κs a z e. Meets (promise_of (isSound a.0.now)) z tt)
+pub is_sound_promised : (is_sound_asks ≡ λ κs a. Unit {0}) × (is_sound_tells ≡ λ κs a z e. Meets (promise_of (is_sound a.0.now)) z tt)
 is_sound_promised = (refl, refl)
 
-pub rebuild_promised : (rebuild-asks ≡ λ κs a. Unit {0}) × (rebuild-tells ≡ λ κs a z e. Meets (promise_of (rebuild a.0.now)) z e.0.now)
+pub rebuild_promised : (rebuild_asks ≡ λ κs a. Unit {0}) × (rebuild_tells ≡ λ κs a z e. Meets (promise_of (rebuild a.0.now)) z e.0.now)
 rebuild_promised = (refl, refl)
 
 -- a layer handed back: its words are its promise by Settles' `part_meets`, and it is the caller's own part
-pub layer0_promised : (layer0-asks ≡ λ κs a. Unit {0}) × (layer0-tells ≡ λ κs a z e. OwnPart a.0 z 0)
+pub layer0_promised : (layer0_asks ≡ λ κs a. Unit {0}) × (layer0_tells ≡ λ κs a z e. OwnPart a.0 z 0)
 layer0_promised = (refl, refl)
 
-pub layer1_promised : (layer1-asks ≡ λ κs a. Unit {0}) × (layer1-tells ≡ λ κs a z e. OwnPart a.0 z 1)
+pub layer1_promised : (layer1_asks ≡ λ κs a. Unit {0}) × (layer1_tells ≡ λ κs a z e. OwnPart a.0 z 1)
 layer1_promised = (refl, refl)
 
-pub layer2_promised : (layer2-asks ≡ λ κs a. Unit {0}) × (layer2-tells ≡ λ κs a z e. OwnPart a.0 z 2)
+pub layer2_promised : (layer2_asks ≡ λ κs a. Unit {0}) × (layer2_tells ≡ λ κs a z e. OwnPart a.0 z 2)
 layer2_promised = (refl, refl)
 
 -- ---- in place
 
-pub bitor_assign_promised : (bitorAssign-asks ≡ λ κs a. Unit {0}) × (bitorAssign-tells ≡ λ κs a z e. Meets (promise_of (bitorAssign a.0.now a.1.0.now)) z e.0.now)
+pub bitor_assign_promised : (bitor_assign_asks ≡ λ κs a. Unit {0}) × (bitor_assign_tells ≡ λ κs a z e. Meets (promise_of (bitor_assign a.0.now a.1.0.now)) z e.0.now)
 bitor_assign_promised = (refl, refl)
 
-pub bitand_assign_promised : (bitandAssign-asks ≡ λ κs a. Unit {0}) × (bitandAssign-tells ≡ λ κs a z e. Meets (promise_of (bitandAssign a.0.now a.1.0.now)) z e.0.now)
+pub bitand_assign_promised : (bitand_assign_asks ≡ λ κs a. Unit {0}) × (bitand_assign_tells ≡ λ κs a z e. Meets (promise_of (bitand_assign a.0.now a.1.0.now)) z e.0.now)
 bitand_assign_promised = (refl, refl)
 
-pub bitxor_assign_promised : (bitxorAssign-asks ≡ λ κs a. Unit {0}) × (bitxorAssign-tells ≡ λ κs a z e. Meets (promise_of (bitxorAssign a.0.now a.1.0.now)) z e.0.now)
+pub bitxor_assign_promised : (bitxor_assign_asks ≡ λ κs a. Unit {0}) × (bitxor_assign_tells ≡ λ κs a z e. Meets (promise_of (bitxor_assign a.0.now a.1.0.now)) z e.0.now)
 bitxor_assign_promised = (refl, refl)
 
 -- ---- walks: the cursor comes first
 
-pub start_promised : (start-asks ≡ λ κs a. Unit {0}) × (start-tells ≡ λ κs a z e. Meets (promise_of (start a.1.0.now a.0)) z tt)
+pub start_promised : (start_asks ≡ λ κs a. Unit {0}) × (start_tells ≡ λ κs a z e. Meets (promise_of (start a.1.0.now a.0)) z tt)
 start_promised = (refl, refl)
 
-pub next_promised : (next-asks ≡ λ κs a. Unit {0}) × (next-tells ≡ λ κs a z e. Meets (promise_of (next a.1.0.now a.0 a.1.1.0)) z tt)
+pub next_promised : (next_asks ≡ λ κs a. Unit {0}) × (next_tells ≡ λ κs a z e. Meets (promise_of (next a.1.0.now a.0 a.1.1.0)) z tt)
 next_promised = (refl, refl)
 
-pub fill_promised : (fill-asks ≡ λ κs a. Unit {0}) × (fill-tells ≡ λ κs a z e. Meets (promise_of (fill a.1.0.now a.0 a.1.1.0 a.1.1.1.0.now)) z e.1.1.1.0.now)
+pub fill_promised : (fill_asks ≡ λ κs a. Unit {0}) × (fill_tells ≡ λ κs a z e. Meets (promise_of (fill a.1.0.now a.0 a.1.1.0 a.1.1.1.0.now)) z e.1.1.1.0.now)
 fill_promised = (refl, refl)
 
 -- ---- formulas: the codes come before the four slices
 
-pub contains_f_promised : (containsF-asks ≡ λ κs a. Unit {0}) × (containsF-tells ≡ λ κs a z e. Meets (promise_of (contains_f (four a.1.0.now a.1.1.0.now a.1.1.1.0.now a.1.1.1.1.0.now) a.0.now a.1.1.1.1.1.0)) z tt)
+pub contains_f_promised : (contains_f_asks ≡ λ κs a. Unit {0}) × (contains_f_tells ≡ λ κs a z e. Meets (promise_of (contains_f (four a.1.0.now a.1.1.0.now a.1.1.1.0.now a.1.1.1.1.0.now) a.0.now a.1.1.1.1.1.0)) z tt)
 contains_f_promised = (refl, refl)
 
-pub is_empty_f_promised : (isEmptyF-asks ≡ λ κs a. Unit {0}) × (isEmptyF-tells ≡ λ κs a z e. Meets (promise_of (is_empty_f (four a.1.0.now a.1.1.0.now a.1.1.1.0.now a.1.1.1.1.0.now) a.0.now)) z tt)
+pub is_empty_f_promised : (is_empty_f_asks ≡ λ κs a. Unit {0}) × (is_empty_f_tells ≡ λ κs a z e. Meets (promise_of (is_empty_f (four a.1.0.now a.1.1.0.now a.1.1.1.0.now a.1.1.1.1.0.now) a.0.now)) z tt)
 is_empty_f_promised = (refl, refl)
 
-pub get_from_layer_f_promised : (getFromLayerF-asks ≡ λ κs a. Unit {0}) × (getFromLayerF-tells ≡ λ κs a z e. Meets (promise_of (get_from_layer_f (four a.1.0.now a.1.1.0.now a.1.1.1.0.now a.1.1.1.1.0.now) a.0.now a.1.1.1.1.1.0 a.1.1.1.1.1.1.0)) z tt)
+pub get_from_layer_f_promised : (get_from_layer_f_asks ≡ λ κs a. Unit {0}) × (get_from_layer_f_tells ≡ λ κs a z e. Meets (promise_of (get_from_layer_f (four a.1.0.now a.1.1.0.now a.1.1.1.0.now a.1.1.1.1.0.now) a.0.now a.1.1.1.1.1.0 a.1.1.1.1.1.1.0)) z tt)
 get_from_layer_f_promised = (refl, refl)
 
-pub start_f_promised : (startF-asks ≡ λ κs a. Unit {0}) × (startF-tells ≡ λ κs a z e. Meets (promise_of (start_f (four a.1.1.0.now a.1.1.1.0.now a.1.1.1.1.0.now a.1.1.1.1.1.0.now) a.1.0.now a.0)) z tt)
+pub start_f_promised : (start_f_asks ≡ λ κs a. Unit {0}) × (start_f_tells ≡ λ κs a z e. Meets (promise_of (start_f (four a.1.1.0.now a.1.1.1.0.now a.1.1.1.1.0.now a.1.1.1.1.1.0.now) a.1.0.now a.0)) z tt)
 start_f_promised = (refl, refl)
 
-pub next_f_promised : (nextF-asks ≡ λ κs a. Unit {0}) × (nextF-tells ≡ λ κs a z e. Meets (promise_of (next_f (four a.1.1.0.now a.1.1.1.0.now a.1.1.1.1.0.now a.1.1.1.1.1.0.now) a.1.0.now a.0 a.1.1.1.1.1.1.0)) z tt)
+pub next_f_promised : (next_f_asks ≡ λ κs a. Unit {0}) × (next_f_tells ≡ λ κs a z e. Meets (promise_of (next_f (four a.1.1.0.now a.1.1.1.0.now a.1.1.1.1.0.now a.1.1.1.1.1.0.now) a.1.0.now a.0 a.1.1.1.1.1.1.0)) z tt)
 next_f_promised = (refl, refl)
 
-pub fill_f_promised : (fillF-asks ≡ λ κs a. Unit {0}) × (fillF-tells ≡ λ κs a z e. Meets (promise_of (fill_f (four a.1.1.0.now a.1.1.1.0.now a.1.1.1.1.0.now a.1.1.1.1.1.0.now) a.1.0.now a.0 a.1.1.1.1.1.1.0 a.1.1.1.1.1.1.1.0.now)) z e.1.1.1.1.1.1.1.0.now)
+pub fill_f_promised : (fill_f_asks ≡ λ κs a. Unit {0}) × (fill_f_tells ≡ λ κs a z e. Meets (promise_of (fill_f (four a.1.1.0.now a.1.1.1.0.now a.1.1.1.1.0.now a.1.1.1.1.1.0.now) a.1.0.now a.0 a.1.1.1.1.1.1.0 a.1.1.1.1.1.1.1.0.now)) z e.1.1.1.1.1.1.1.0.now)
 fill_f_promised = (refl, refl)
 
 -- ---- maps
 
-pub write_promised : (write-asks ≡ λ κs a. Unit {0}) × (write-tells ≡ λ κs a z e. Meets (promise_of (write a.0.now a.1.0.now)) z e.1.0.now)
+pub write_promised : (write_asks ≡ λ κs a. Unit {0}) × (write_tells ≡ λ κs a z e. Meets (promise_of (write a.0.now a.1.0.now)) z e.1.0.now)
 write_promised = (refl, refl)
 
-pub read_promised : (read-asks ≡ λ κs a. Unit {0}) × (read-tells ≡ λ κs a z e. Meets (promise_of (read a.0.now a.1.0.now)) z e.1.0.now)
+pub read_promised : (read_asks ≡ λ κs a. Unit {0}) × (read_tells ≡ λ κs a z e. Meets (promise_of (read a.0.now a.1.0.now)) z e.1.0.now)
 read_promised = (refl, refl)
 
-pub map_length_promised : (mapLength-asks ≡ λ κs a. Unit {0}) × (mapLength-tells ≡ λ κs a z e. Meets (promise_of (map_length a.0.now)) z tt)
+pub map_length_promised : (map_length_asks ≡ λ κs a. Unit {0}) × (map_length_tells ≡ λ κs a z e. Meets (promise_of (map_length a.0.now)) z tt)
 map_length_promised = (refl, refl)
 
-pub map_capacity_promised : (mapCapacity-asks ≡ λ κs a. Unit {0}) × (mapCapacity-tells ≡ λ κs a z e. Meets (promise_of (map_capacity a.0.now)) z tt)
+pub map_capacity_promised : (map_capacity_asks ≡ λ κs a. Unit {0}) × (map_capacity_tells ≡ λ κs a z e. Meets (promise_of (map_capacity a.0.now)) z tt)
 map_capacity_promised = (refl, refl)
 
 -- ---- the directory: the store comes first, then its owner bytes
 
-pub open_directory_promised : (openDirectory-asks ≡ λ κs a. Unit {0}) × (openDirectory-tells ≡ λ κs a z e. Meets (promise_of (open_directory (directory a.0.now a.1.0.now) a.1.1.0)) z (directory e.0.now e.1.0.now))
+pub open_directory_promised : (open_directory_asks ≡ λ κs a. Unit {0}) × (open_directory_tells ≡ λ κs a z e. Meets (promise_of (open_directory (directory a.0.now a.1.0.now) a.1.1.0)) z (directory e.0.now e.1.0.now))
 open_directory_promised = (refl, refl)
 
-pub give_promised : (give-asks ≡ λ κs a. Unit {0}) × (give-tells ≡ λ κs a z e. Meets (promise_of (give (directory a.0.now a.1.0.now) a.1.1.0)) z (directory e.0.now e.1.0.now))
+pub give_promised : (give_asks ≡ λ κs a. Unit {0}) × (give_tells ≡ λ κs a z e. Meets (promise_of (give (directory a.0.now a.1.0.now) a.1.1.0)) z (directory e.0.now e.1.0.now))
 give_promised = (refl, refl)
 
-pub take_back_promised : (takeBack-asks ≡ λ κs a. Unit {0}) × (takeBack-tells ≡ λ κs a z e. Meets (promise_of (take_back (directory a.0.now a.1.0.now) a.1.1.0 a.1.1.1.0)) z (directory e.0.now e.1.0.now))
+pub take_back_promised : (take_back_asks ≡ λ κs a. Unit {0}) × (take_back_tells ≡ λ κs a z e. Meets (promise_of (take_back (directory a.0.now a.1.0.now) a.1.1.0 a.1.1.1.0)) z (directory e.0.now e.1.0.now))
 take_back_promised = (refl, refl)
 
 -- ---- the reader: where a struct with a reference is taken or handed back, the contract is the function's `spec`, and what it requires is
@@ -195,5 +195,5 @@ module _ {M : Type 1} {𝓤 : Ura M} (𝓛 : Logic 𝓤) (at_mem : Memory → SP
   })
   next_r_promised = refl
 
-pub first_r_promised : (firstR-asks ≡ λ κs a. Unit {0}) × (firstR-tells ≡ λ κs a z e. z ≡ told (next_in a.0.now (started_of a.0.now) a.1.0))
+pub first_r_promised : (first_r_asks ≡ λ κs a. Unit {0}) × (first_r_tells ≡ λ κs a z e. z ≡ told (next_in a.0.now (started_of a.0.now) a.1.0))
 first_r_promised = (refl, refl)

@@ -24,8 +24,8 @@ use Rattle.set_free.specs.Calls.{search_start, free_from, first_of, first_free_o
 use Rattle.set_superset.specs.Calls.{contains_set_of}
 use Rattle.summary.specs.Calls.{rebuild_of, is_sound_of}
 use Rattle.walk.specs.Calls.{step_paper, written, refused, fits, start_in, next_in}
-use Rattle.walk.specs.Walk.{Kind, kind, by_kind, paused, more, descend, next as walkNext}
-use Rattle.walk.specs.Walk.Kind.{gives as givesOne, reads, done}
+use Rattle.walk.specs.Walk.{Kind, kind, by_kind, paused, more, descend, next as walk_next}
+use Rattle.walk.specs.Walk.Kind.{gives as gives_one, reads, done}
 use Rattle.walk.specs.declared.Cursor.{Cursor}
 use Rattle.walk.specs.declared.Next.{Next}
 use Rattle.walk.specs.declared.Next.TheVariants.{Member, Paused, End, Refused as NextRefused}
@@ -51,7 +51,7 @@ use Rattle.map_read.specs.declared.MapFor.TheVariants.{Refused as MapForRefused}
 use Rattle.map_read.specs.Judge.{cap_in, count_in, used_in, table_in, head_ok, good, total, judge_of}
 use Rattle.directory.specs.Calls.{Directory, owner_at, is_item, room_refusal, item_refusal, return_refusal, directory_open_of, give_of, take_back_of}
 use Rattle.claims.specs.Calls.{Answered, Memory, Meets, refusal, Refuses, Refused, Call, promise_of, part_paper, layer_part_of, no_batch, told_paper, told_refused, told_of, moved_to}
-use Rattle.claims.specs.Calls.Call.{«open», add, remove, contains, add_list, is_empty, clear, containsSet, equal, get_from_layer, layer_as_slice, average_ones, firstFree, isSound, rebuild, bitorAssign, bitandAssign, bitxorAssign, start, next, fill, contains_f, is_empty_f, get_from_layer_f, start_f, next_f, fill_f, write, read, map_length, map_capacity, open_directory, give, take_back, iter_r, next_r, first_r}
+use Rattle.claims.specs.Calls.Call.{«open», add, remove, contains, add_list, is_empty, clear, contains_set, equal, get_from_layer, layer_as_slice, average_ones, first_free, is_sound, rebuild, bitor_assign, bitand_assign, bitxor_assign, start, next, fill, contains_f, is_empty_f, get_from_layer_f, start_f, next_f, fill_f, write, read, map_length, map_capacity, open_directory, give, take_back, iter_r, next_r, first_r}
 use Rattle.claims.proofs.Stays.{by_cond, is_known, Stays, goes, no_goes, choose, refuses_so}
 
 -- 0, or a number of the table
@@ -149,14 +149,14 @@ abbrev number : Step → ℕ
 number a = get_or (step_paper.numbers a) 0 0
 
 kind_goes : (t : ℕ) (c : Cursor) (f : ℕ → Step) (k : Kind) → ((j : ℕ) → number (f j) ≡ 0) → number (by_kind t c f k) ≡ 0
-kind_goes t c f givesOne h = refl
+kind_goes t c f gives_one h = refl
 kind_goes t c f (reads j) h = h j
 kind_goes t c f done h = refl
 
-next_goes : (lw : ℕ → ℕ → ℕ) (t b : ℕ) (c : Cursor) → number (walkNext lw t b c) ≡ 0
-unfolding walkNext
+next_goes : (lw : ℕ → ℕ → ℕ) (t b : ℕ) (c : Cursor) → number (walk_next lw t b c) ≡ 0
+unfolding walk_next
 next_goes lw t zero c = kind_goes t c (λ j. paused c) (kind t c) (λ j. refl)
-next_goes lw t (suc b) c = kind_goes t c (λ j. more 1 (walkNext lw t b (descend lw t j c))) (kind t c) (λ j. next_goes lw t b (descend lw t j c))
+next_goes lw t (suc b) c = kind_goes t c (λ j. more 1 (walk_next lw t b (descend lw t j c))) (kind t c) (λ j. next_goes lw t b (descend lw t j c))
 
 abbrev number_in : Filled → ℕ
 number_in f = get_or (batch_paper.numbers (batch f)) 0 0
@@ -174,7 +174,7 @@ fill_goes : (lw : ℕ → ℕ → ℕ) (t m b : ℕ) (c : Cursor) → number_in 
 unfolding fill_from
 fill_goes lw t zero b c = refl
 fill_goes lw t (suc m) b c =
-    let a = walkNext lw t b c in
+    let a = walk_next lw t b c in
     on_goes a (fill_from lw t m (b - a.reads)) (next_goes lw t b c) (λ d. fill_goes lw t m (b - a.reads) d)
 
 module _ (c : Cursor) where
@@ -344,17 +344,17 @@ refusals (contains s i) r y = refuses_so (contains_stays s i)
 refusals (add_list s ids) r y = refuses_so (list_stays s ids)
 refusals (is_empty s) r y = refuses_so (empty-stays s)
 refusals (clear s) r y = refuses_so (clear_stays s)
-refusals (containsSet s t) r y = refuses_so (set-stays s t)
+refusals (contains_set s t) r y = refuses_so (set-stays s t)
 refusals (equal s t) r y = refuses_so (equal_stays s t)
 refusals (get_from_layer s k i) r y = refuses_so (word-stays s k i)
 refusals (layer_as_slice s k) r y = refuses_so (part_stays s k)
 refusals (average_ones w) r y = λ m n. n refl
-refusals (firstFree s) r y = refuses_so (free_stays s)
-refusals (isSound s) r y = refuses_so (sound_stays s)
+refusals (first_free s) r y = refuses_so (free_stays s)
+refusals (is_sound s) r y = refuses_so (sound_stays s)
 refusals (rebuild s) r y = refuses_so (rebuild_stays s)
-refusals (bitorAssign s t) r y = assign_refuses _ s t
-refusals (bitandAssign s t) r y = assign_refuses _ s t
-refusals (bitxorAssign s t) r y = assign_refuses _ s t
+refusals (bitor_assign s t) r y = assign_refuses _ s t
+refusals (bitand_assign s t) r y = assign_refuses _ s t
+refusals (bitxor_assign s t) r y = assign_refuses _ s t
 refusals (start s c) r y = refuses_so (start_stays s c)
 refusals (next s c b) r y = refuses_so (next-stays s c b)
 refusals (fill s c b out) r y = refuses_so (fill_stays s c b out)

@@ -3,7 +3,7 @@ use Rattle.std.specs.Prelude.{Bool, true, false, ◌||◌, List, [], ◌∷◌, 
 use Rattle.std.proofs.Common.{ap}
 use Rattle.std.specs.Borrow.{Bor}
 use Rattle.util.specs.Outcome.{Outcome, Paper, Settled}
-use Rattle.average.specs.Average.{average_of, paper as halfPaper}
+use Rattle.average.specs.Average.{average_of, paper as half_paper}
 use Rattle.store.specs.Answer.{asked_paper, did_paper, found_paper, read_paper}
 use Rattle.store.specs.Layout.{top_most, cap}
 use Rattle.store.specs.declared.Asked.TheVariants.{Refused as AskedRefused}
@@ -173,12 +173,12 @@ pub data Call : Type 0 where
   add remove contains : (s : List ℕ) (i : ℕ) → Call
   add_list : (s ids : List ℕ) → Call
   is_empty clear : (s : List ℕ) → Call
-  containsSet equal : (s t : List ℕ) → Call
+  contains_set equal : (s t : List ℕ) → Call
   get_from_layer : (s : List ℕ) (k i : ℕ) → Call
   layer_as_slice : (s : List ℕ) (k : ℕ) → Call
   average_ones : (w : ℕ) → Call
-  firstFree isSound rebuild : (s : List ℕ) → Call
-  bitorAssign bitandAssign bitxorAssign : (s t : List ℕ) → Call
+  first_free is_sound rebuild : (s : List ℕ) → Call
+  bitor_assign bitand_assign bitxor_assign : (s t : List ℕ) → Call
   start : (s : List ℕ) (c : Cursor) → Call
   next : (s : List ℕ) (c : Cursor) (b : ℕ) → Call
   fill : (s : List ℕ) (c : Cursor) (b : ℕ) (out : List ℕ) → Call
@@ -212,17 +212,17 @@ promise_of (contains s i) = fixes asked_paper AskedRefused tt (contains_of s i)
 promise_of (add_list s ids) = fixes did_paper DidRefused s (add_list_of s ids)
 promise_of (is_empty s) = fixes asked_paper AskedRefused tt (is_empty_of s)
 promise_of (clear s) = fixes did_paper DidRefused s (clear_of s)
-promise_of (containsSet s t) = fixes asked_paper AskedRefused tt (contains_set_of s t)
+promise_of (contains_set s t) = fixes asked_paper AskedRefused tt (contains_set_of s t)
 promise_of (equal s t) = fixes asked_paper AskedRefused tt (equal_of s t)
 promise_of (get_from_layer s k i) = fixes read_paper ReadRefused tt (word_of s k i)
 promise_of (layer_as_slice s k) = fixes part_paper (λ n. []) tt (layer_part_of s k)
-promise_of (average_ones w) = tells halfPaper (average_of w)
-promise_of (firstFree s) = fixes found_paper FoundRefused tt (first_free_of s)
-promise_of (isSound s) = fixes asked_paper AskedRefused tt (is_sound_of s)
+promise_of (average_ones w) = tells half_paper (average_of w)
+promise_of (first_free s) = fixes found_paper FoundRefused tt (first_free_of s)
+promise_of (is_sound s) = fixes asked_paper AskedRefused tt (is_sound_of s)
 promise_of (rebuild s) = fixes did_paper DidRefused s (rebuild_of s)
-promise_of (bitorAssign s t) = merges 17 s t
-promise_of (bitandAssign s t) = merges 16 s t
-promise_of (bitxorAssign s t) = merges 18 s t
+promise_of (bitor_assign s t) = merges 17 s t
+promise_of (bitand_assign s t) = merges 16 s t
+promise_of (bitxor_assign s t) = merges 18 s t
 promise_of (start s c) = fixes step_paper (λ n. refused n c) tt (start_of s c)
 promise_of (next s c b) = fixes step_paper (λ n. refused n c) tt (next_of s c b)
 promise_of (fill s c b out) = fixes batch_paper (no_batch c) out (fill_of s c b out)

@@ -23,7 +23,7 @@ use Rattle.walk_laws.specs.Calls.{run_by}
 use Rattle.formula_codes.specs.Check.{beside_of, sooner, stores_of, check_of}
 use Rattle.formula_codes.specs.Codes.{code_kind, trees, tree_of, takes_in, left as left_of, is_formula}
 use Rattle.formula_codes.specs.Tree.{existing, joined, xor_in, not_in, value, tree_word}
-use Rattle.formula_walk.specs.Calls.{refusal_in, formula_start_in as startOver, formula_next_in as next_over}
+use Rattle.formula_walk.specs.Calls.{refusal_in, formula_start_in as start_over, formula_next_in as next_over}
 use Rattle.ops_word.specs.Op.{op_word}
 use Rattle.ops_merge.specs.Calls.{merged_of, assign_of}
 use Rattle.map_format.specs.Bytes.{le, num}
@@ -32,7 +32,7 @@ use Rattle.map_write.specs.Map.{kept_from, count_all, used, entries, map_of}
 use Rattle.map_read.specs.Calls.{read_of}
 use Rattle.map_read.specs.Judge.{head_ok, entry_ok, good, total, judge_of, fill_table, map_words}
 use Rattle.claims.specs.Calls.{Meets, promise_of}
-use Rattle.claims.specs.Calls.Call.{bitandAssign}
+use Rattle.claims.specs.Calls.Call.{bitand_assign}
 use Rattle.claims.specs.Reached.{Reached}
 use Rattle.claims.specs.Reached.OneCall.{lists}
 use Rattle.claims.specs.Reached.Reached.{opened, after}
@@ -83,7 +83,7 @@ unfolding low_from prefix_at place_at less handed taken next run_by prefixes_fit
 five_walked = refl
 
 five_lazily : walked_and large_far (large_one 32) ≡ 1 ∷ 4 ∷ 5 ∷ []
-unfolding low_from prefix_at place_at less handed taken next run_by prefixes_fit count_trailing_zeros bit top is_cap is_store room span layer_end word existing xor_in not_in value tree_word joined code_kind trees tree_of takes_in left_of is_formula beside_of sooner stores_of check_of refusal_in startOver next_over op_word
+unfolding low_from prefix_at place_at less handed taken next run_by prefixes_fit count_trailing_zeros bit top is_cap is_store room span layer_end word existing xor_in not_in value tree_word joined code_kind trees tree_of takes_in left_of is_formula beside_of sooner stores_of check_of refusal_in start_over next_over op_word
 five_lazily = refl
 
 holds7 : Holds (p7 far (one 5))
@@ -91,7 +91,7 @@ unfolding p7
 holds7 = (ap₂ (λ (s t : List ℕ). sample_walk (anded s t)) written_out.0 written_out.1 ∙ ap sample_walk far_five ∙ five_walked, (ap₂ walked_and written_out.0 written_out.1 ∙ five_lazily, tt))
 
 none_lazily : walked_and (large_one 2) (large_one 4) ≡ 1 ∷ 4 ∷ []
-unfolding low_from prefix_at place_at less handed taken next run_by prefixes_fit count_trailing_zeros bit top is_cap is_store room span layer_end word existing xor_in not_in value tree_word joined code_kind trees tree_of takes_in left_of is_formula beside_of sooner stores_of check_of refusal_in startOver next_over op_word
+unfolding low_from prefix_at place_at less handed taken next run_by prefixes_fit count_trailing_zeros bit top is_cap is_store room span layer_end word existing xor_in not_in value tree_word joined code_kind trees tree_of takes_in left_of is_formula beside_of sooner stores_of check_of refusal_in start_over next_over op_word
 none_lazily = refl
 
 none_left : (is_empty_of (anded (large_one 2) (large_one 4))).numbers ≡ 0 ∷ 1 ∷ []
@@ -139,7 +139,7 @@ samples = (holds1, (holds2, (holds3, (holds456, (holds7, (holds8, (holds9, (hold
 reached_set : (N : ℕ) (ids : List ℕ) → 1 ≤ N → N ≤ max_cap → Reached N (set_of N ids)
 reached_set N ids some most = after (opened (replicate (store_len N) 0) some most (length-replicate {A = ℕ} (store_len N) 0)) (lists ids)
 
-pub in_place : (ids ids' : List ℕ) (r : Did) (u : List ℕ) → Meets (promise_of (bitandAssign (set_of unnamed ids) (set_of unnamed ids'))) r u
+pub in_place : (ids ids' : List ℕ) (r : Did) (u : List ℕ) → Meets (promise_of (bitand_assign (set_of unnamed ids) (set_of unnamed ids'))) r u
     → u ≡ anded (set_of unnamed ids) (set_of unnamed ids')
 in_place ids ids' r u v =
     (v.whole (reached_whole (reached_set unnamed ids (omega arith) (omega arith)) (reached_set unnamed ids' (omega arith) (omega arith)) 16)).memory

@@ -13,10 +13,10 @@ use Rattle.walk.specs.Walk.{start_at}
 use Rattle.walk.specs.declared.Cursor.{Cursor}
 use Rattle.walk.specs.declared.Step.{Step}
 use Rattle.walk_laws.specs.Calls.{Ask, Run}
-use Rattle.walk_laws.specs.Calls.Ask.{one as nextBy}
+use Rattle.walk_laws.specs.Calls.Ask.{one as next_by}
 use Rattle.walk_laws.specs.Walks.{walk_on}
 use Rattle.formula_codes.specs.Tree.{four}
-use Rattle.formula_walk.specs.Calls.{formula_start_in as startOver}
+use Rattle.formula_walk.specs.Calls.{formula_start_in as start_over}
 use Rattle.formula_laws.specs.Walks.{walk_over}
 use Rattle.ops_merge.specs.Calls.{assign_of}
 use Rattle.map_write.specs.Calls.{write_of}
@@ -44,7 +44,7 @@ told r w = cond w.over 1 0 ∷ (r + w.total) ∷ w.members
 
 -- a walk of a store, and of the intersection of two, with nine reads a call
 abbrev nines : List Ask
-nines = nextBy 9 ∷ nextBy 9 ∷ nextBy 9 ∷ []
+nines = next_by 9 ∷ next_by 9 ∷ next_by 9 ∷ []
 
 abbrev pub sample_walk : List ℕ → List ℕ
 sample_walk s = told (start_in s zeros).reads (walk_on s zeros nines)
@@ -53,7 +53,7 @@ abbrev both : List ℕ
 both = 0 ∷ 1 ∷ 16 ∷ []
 
 abbrev pub walked_and : List ℕ → List ℕ → List ℕ
-walked_and s t = told (startOver (four s t [] []) both zeros).reads (walk_over (four s t [] []) both zeros nines)
+walked_and s t = told (start_over (four s t [] []) both zeros).reads (walk_over (four s t [] []) both zeros nines)
 
 -- what is left of s by and in place
 abbrev pub anded : List ℕ → List ℕ → List ℕ
