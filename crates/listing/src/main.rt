@@ -2,11 +2,13 @@
 // 65,536 bytes, and a line that a piece's end cuts goes on in the next one; of a line its first 13 bytes are kept, since no line that
 // means something is longer than 12. What is printed is joined in a buffer of 65,536 bytes. The store is a store and sound at every line.
 #![tactic(auto)]
+
 ghost use Rattle.std.specs.Prelude.{◌+◌, ◌≤◌, ◌<◌, ◌^◌, length};
 ghost use Rattle.io.specs.Counts.{IsPrefixLen};
 ghost use Rattle.listing_replies.specs.Replies.{Good};
 
-use libc::STDIN_FILENO;
+// the file descriptor of standard input
+const STDIN_FILENO: i32 = 0;
 
 // What is carried from piece to piece: how much of the output buffer is filled, how long the line is so far, how many lines ended.
 #[derive(Clone, Copy)]
@@ -53,8 +55,7 @@ fn feed(store: &mut [u64], line: &mut [u8], buf: &mut [u8], st: State, piece: &[
 fn fill(piece: &mut [u8], left: u64) -> usize
     ensures { (IsPrefixLen result piece.new) × (result ≤ left) }
 {
-    let got = libc::read(STDIN_FILENO, piece);
-    let n = io::count(got, piece);
+    let n = io::read_full(STDIN_FILENO, piece);
     if left < n as u64 {
         return 0;
     }
@@ -83,6 +84,10 @@ fn main() {
         }
         left -= n as u64;
         s = feed(&mut store, &mut line, &mut buf, s, &piece[..n]);
+        // a piece that is not full is the last: the input ended, or a read failed
+        if n < piece.len() {
+            break;
+        }
     }
     let e = step(&mut store, &line, &mut buf, s, s.len, 0 < s.len);
     text_out::flush(&buf, e.at);

@@ -75,7 +75,7 @@ each_digit (b ∷ bs) e k l = go (each_digit bs) k l (dec_lt (digit_of b) 10)
 pub meant : {letter i : ℕ} {line : List ℕ} → Spells letter i line → command_of line ≡ with_id letter (At i)
 meant {letter} {i} s =
     let all = all_digits s.bytes s.each in
-    ap command_of s.line-is
+    ap command_of s.line_is
     ∙ sym (blank (letter ∷ 32 ∷ s.bytes) refl)
     ∙ ap (with_id letter)
     (id_is s.bytes s.few (λ z. omega (arith, s.some)) (omega (arith, s.value, s.fits)) (omega arith) ∙ ap At s.value)

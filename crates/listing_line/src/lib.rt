@@ -1,5 +1,6 @@
 // What a line of the listing program means. Which lines are commands, both ways, and that a number that was put is read back, are theorems.
 #![tactic(auto)]
+
 ghost use Rattle.std.specs.Prelude.{◌≡◌, take, drop, get_or};
 ghost use Rattle.listing_line.specs.Line.{id_of, with_id, command_of};
 
@@ -29,6 +30,7 @@ fn byte(line: &[u8], at: usize) -> u8
 }
 
 // The id from place 2 to the line's end.
+#[tactic(auto, using(crate::proofs::Parsing::id_over))]
 fn read_id(line: &[u8]) -> Id
     ensures { result ≡ id_of (drop 2 line.now) }
 {

@@ -1,5 +1,6 @@
 // The line of the listing program that names all members: `w`, and each id that a walk of the store hands out.
 #![tactic(auto)]
+
 ghost use Rattle.std.specs.Prelude.{true, ◌∷◌, ◌≡◌};
 ghost use Rattle.store.specs.Layout.{is_store};
 ghost use Rattle.walk_batches.specs.Steps.{walked};

@@ -38,8 +38,8 @@ inside_by false true false = record { from_to = omega arith; to_end = omega arit
 inside_by false false true = record { from_to = omega arith; to_end = omega arith; has = refl }
 inside_by false false false = record { from_to = omega arith; to_end = omega arith; has = refl }
 
-pub in_span : (letter : ℕ) (held : Bool) → InSpan (reply_word letter held) (span_of letter held)
-in_span letter held = inside_by (eqb letter 97) (eqb letter 114) held
+pub in_span : (letter : ℕ) (held : Bool) {s : Span} → s ≡ span_of letter held → InSpan (reply_word letter held) s
+in_span letter held e = rw e (inside_by (eqb letter 97) (eqb letter 114) held)
 
 -- ---- the pieces of a line
 

@@ -1,5 +1,6 @@
 // What the listing program prints for a letter, an id and an answer.
 #![tactic(auto)]
+
 ghost use Rattle.std.specs.Prelude.{◌∷◌, ◌≡◌};
 ghost use Rattle.store.specs.declared.Asked.TheVariants.{Is, Refused};
 ghost use Rattle.text_out.specs.Out.{holding, put_all_of, decimal_of};

@@ -1,5 +1,6 @@
 // What the listing program does and prints for a line that is read.
 #![tactic(auto)]
+
 ghost use Rattle.std.specs.Prelude.{◌≡◌};
 ghost use Rattle.text_out.specs.Out.{holding, put_all_of};
 ghost use Rattle.listing_replies.specs.Replies.{after_of, printed_of};

@@ -69,7 +69,7 @@ module _ {line : List ℕ} {from most value at : ℕ} (r : Reading line from mos
   module _ (none : digits (drop at line) ≡ []) where
     whole_value : value_after 0 (digits (drop from line)) ≡ value
     unfolding value_after
-    whole_value = sym r.value-is ∙ ap (value_after value) none
+    whole_value = sym r.value_is ∙ ap (value_after value) none
 
     whole_end : from + length (digits (drop from line)) ≡ at
     whole_end = sym r.end_is ∙ ap (λ (ds : List ℕ). at + length ds) none ∙ omega arith
@@ -98,7 +98,7 @@ module _ {line : List ℕ} {from most value at : ℕ} (r : Reading line from mos
         record {
           order = omega (arith, r.order);
           fits = fits;
-          value_is = sym (ap (value_after value) next-digits) ∙ r.value-is;
+          value_is = sym (ap (value_after value) next-digits) ∙ r.value_is;
           end_is = omega (arith, r.end_is, ap length next-digits);
         }
 
@@ -107,4 +107,4 @@ module _ {line : List ℕ} {from most value at : ℕ} (r : Reading line from mos
     unfolding value_after
     reads_over over =
         sym (too_much line from most
-        (omega (arith, r.value-is, ap (value_after value) next-digits, grows (value * 10 + d) (digits (drop (at + 1) line)))))
+        (omega (arith, r.value_is, ap (value_after value) next-digits, grows (value * 10 + d) (digits (drop (at + 1) line)))))

@@ -1,5 +1,6 @@
 // What the programs read: lines joined from pieces of input, and decimal numbers in them.
 #![tactic(auto)]
+
 ghost use Rattle.std.specs.Prelude.{◌≡◌};
 ghost use Rattle.text_out.specs.Out.{holding};
 ghost use Rattle.text_in.specs.Line.{keep_of, taken_text, gather_of};

@@ -1,9 +1,11 @@
 // What the programs write: output joined in a lent buffer, and decimal numbers.
 #![tactic(auto)]
+
 ghost use Rattle.std.specs.Prelude.{◌++◌, ◌∷◌, [], ◌≡◌};
 ghost use Rattle.text_out.specs.Out.{holding, put_of, put_all_of, decimal_of};
 
-use libc::STDOUT_FILENO;
+// the file descriptor of standard output
+const STDOUT_FILENO: i32 = 1;
 
 // Writes the first `at` bytes to standard output, all where there are fewer.
 pub fn flush(buf: &[u8], at: usize) {

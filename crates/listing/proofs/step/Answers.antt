@@ -6,7 +6,4 @@ use Rattle.listing_replies.proofs.Theorems.{good-after}
 use Rattle.listing.proofs.step.Goals as goal
 
 pub returns : goal.returns
-returns c =
-    let p = c.before.before.before.before in
-    let s = p.before.before.before.before.before.before.before.before.before in
-    (search rules, subst Good (sym p.reply-at.ensures.1) (good-after _ p.command_in-c.result s.requires.1))
+returns c = (search rules, subst Good (sym c.reply-at.ensures.1) (good-after _ c.command_in-c.result c.requires.1))

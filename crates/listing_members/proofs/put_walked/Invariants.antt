@@ -1,5 +1,4 @@
 -- `put_walked` meets its contract: what is ahead of the walk, put behind what was put, is the whole, and gets less with each batch.
---
 use Rattle.walk_batches.proofs.Batches.{to_go}
 use Rattle.listing_members.proofs.Naming.{NamingFrom}
 use Rattle.listing_members.proofs.put_walked.Given as goal

@@ -7,7 +7,5 @@ use Rattle.listing_printed.proofs.put_refused.Goals as goal
 
 pub returns : goal.returns
 returns c =
-    let p = c.before.before in
-    let n = p.before.before.before.before in
-    let w = n.before.before.before.before in
-    puts_behind _ _ _ _ w.put_all_lem.ensures (put-behind _ _ _ _ n.put_number-b.ensures p.put_byte.ensures) ∙ ap (put_all_of _ _) (sym (end_refused _ _))
+    puts_behind _ _ _ _ c.put_all-a.ensures (put-behind _ _ _ _ c.put_number-b.ensures c.put_byte.ensures)
+    ∙ ap (put_all_of _ _) (sym (end_refused _ _))

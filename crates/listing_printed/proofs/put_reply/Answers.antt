@@ -8,14 +8,10 @@ use Rattle.listing_printed.proofs.put_reply.Goals as goal
 
 pub returns-in-Is : goal.returns-in-Is
 returns-in-Is c =
-    let w = c.before.before in
-    let m = w.before.before.before in
-    let f = m.before.before.before.before in
-    puts_behind _ _ _ _ f.put_front-a.ensures (w.put_word.ensures ∙ ap (put_all_of _ _) (ap (end_text _) (sym m.answer-1.given.1))) ∙ ap (put_all_of _ _) (sym (reply_is _ _ _))
+    puts_behind _ _ _ _ c.put_front-a.ensures (c.put_word.ensures ∙ ap (put_all_of _ _) (ap (end_text _) (sym c.in-Is.is)))
+    ∙ ap (put_all_of _ _) (sym (reply_is _ _ _))
 
 pub returns-in-Refused : goal.returns-in-Refused
 returns-in-Refused c =
-    let w = c.before.before in
-    let m = w.before.before.before in
-    let f = m.before.before.before.before in
-    puts_behind _ _ _ _ f.put_front-a.ensures (w.Put-refused.ensures ∙ ap (put_all_of _ _) (ap (end_text _) (sym m.answer-in-Refused-1.given.1))) ∙ ap (put_all_of _ _) (sym (reply_is _ _ _))
+    puts_behind _ _ _ _ c.put_front-a.ensures (c.put_refused.ensures ∙ ap (put_all_of _ _) (ap (end_text _) (sym c.in-Refused.is)))
+    ∙ ap (put_all_of _ _) (sym (reply_is _ _ _))

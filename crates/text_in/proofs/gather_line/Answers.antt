@@ -1,11 +1,6 @@
-use mathlib.Core.Path.{refl}
-use Prim.Native.Nat.{◌-◌}
 use borrow.Author.Rules.{rules}
 use Rattle.text_in.proofs.Line.{gathers_end, gathers_line, gathers_turn}
 use Rattle.text_in.proofs.gather_line.Goals as goal
-
-pub loop-i-init : goal.loop-i-init
-loop-i-init c = record { long = refl; same = refl }
 
 pub returns-then-b-eq10 : goal.returns-then-b-eq10
 returns-then-b-eq10 c = gathers_line c.loop-i.invariant (search rules) c.if-b-eq10.true

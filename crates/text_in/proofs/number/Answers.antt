@@ -1,16 +1,12 @@
 use mathlib.Core.List.{[]}
-use mathlib.Core.Logic.{⊎_elim}
 use mathlib.Core.Path.{◌≡◌}
-use Prim.Native.Nat.{◌-◌}
 use native.Mathlib.Omega.{arith}
 use borrow.Author.Rules.{rules}
 use lib.ListN.{drop}
 use Rattle.text_in.specs.Number.{digits}
-use Rattle.text_in.proofs.Digits.{reads_none, reads_some, reads_nothing, reads_more, reads_over, digits_end, digits_stop}
+use Rattle.text_in.proofs.Digits.{reads_some, reads_nothing, reads_more, reads_over, digits_end, digits_stop}
 use Rattle.text_in.proofs.number.Goals as goal
-
-pub loop-at-init : goal.loop-at-init
-loop-at-init c = reads_none _ _ _
+use Rattle.text_in.proofs.number.Goals.{else-loop-at-test, then-loop-at-test+then-d-gt9}
 
 pub returns-then-d-most : goal.returns-then-d-most
 returns-then-d-most c =
@@ -31,18 +27,18 @@ pub returns-then-from-at : goal.returns-then-from-at
 returns-then-from-at c =
     -- the loop ends at the line's end or at a byte that is no digit
     let no_digit : digits (drop c.loop-at.at c.args.line.now) ≡ [] =
-        ⊎_elim
-        (λ w. digits_end _ _ w.left)
-        (λ w. digits_stop _ _ w.0.taken (omega (arith, w.2.ensures, w.3.taken)))
-        c.loop-at-test.branch in
+    elim c.loop-at-test.branch [
+      | else-loop-at-test w ↦ digits_end c.args.line.now c.loop-at.at (omega arith)
+      | then-loop-at-test+then-d-gt9 w ↦ digits_stop c.args.line.now c.loop-at.at (omega arith) (omega (arith, w.digit-d.ensures, w.if-d-gt9.true))
+    ] in
     reads_some c.loop-at.invariant no_digit c.if-from-at.true
 
 pub returns-else-from-at : goal.returns-else-from-at
 returns-else-from-at c =
     -- the loop ends at the line's end or at a byte that is no digit
     let no_digit : digits (drop c.loop-at.at c.args.line.now) ≡ [] =
-        ⊎_elim
-        (λ w. digits_end _ _ w.left)
-        (λ w. digits_stop _ _ w.0.taken (omega (arith, w.2.ensures, w.3.taken)))
-        c.loop-at-test.branch in
+    elim c.loop-at-test.branch [
+      | else-loop-at-test w ↦ digits_end c.args.line.now c.loop-at.at (omega arith)
+      | then-loop-at-test+then-d-gt9 w ↦ digits_stop c.args.line.now c.loop-at.at (omega arith) (omega (arith, w.digit-d.ensures, w.if-d-gt9.true))
+    ] in
     reads_nothing c.loop-at.invariant no_digit c.if-from-at.false

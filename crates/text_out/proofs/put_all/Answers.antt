@@ -1,10 +1,6 @@
-use Prim.Native.Nat.{◌-◌}
 use borrow.Author.Rules.{rules}
-use Rattle.text_out.proofs.Out.{puts_none, puts_turn, puts_end}
+use Rattle.text_out.proofs.Out.{puts_turn, puts_end}
 use Rattle.text_out.proofs.put_all.Goals as goal
-
-pub loop-i-init : goal.loop-i-init
-loop-i-init c = puts_none _ _ _
 
 pub loop-i-preserved : goal.loop-i-preserved
 loop-i-preserved c =

@@ -8,4 +8,4 @@ use Rattle.text_out.proofs.put_number.Goals as goal
 pub returns : goal.returns
 returns c =
     let d = c.decimal-k.ensures in
-    c.put_all_lem.ensures ∙ ap (put_all_of _ _) (d.1.1 ∙ spells 19 _ _ (search rules) d.1.0)
+    c.put_all.ensures ∙ ap (put_all_of _ _) (d.digits ∙ spells 19 _ _ (search rules) d.len)

@@ -1,7 +1,0 @@
--- `byte` meets its contract.
-use mathlib.Core.Path.{sym}
-use lib.ListN.{get_or-eq_default}
-use Rattle.listing_line.proofs.byte.Goals as goal
-
-pub returns-else-at-line : goal.returns-else-at-line
-returns-else-at-line c = sym (get_or-eq_default c.args.line.now _ c.if-at-line.false)
