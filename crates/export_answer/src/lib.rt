@@ -1,5 +1,6 @@
 // What a caller in C or Rust is answered: structs of two numbers, made of the answers of the calls.
 #![tactic(auto)]
+
 ghost use Rattle.std.specs.Prelude.{cond, [], ◌∷◌, ◌≡◌};
 ghost use Rattle.store.specs.Answer.{asked_paper, did_paper, found_paper, read_paper};
 ghost use Rattle.export_answer.specs.Abi.{answer_of};

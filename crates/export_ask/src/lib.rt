@@ -1,5 +1,6 @@
 // What is asked of stores and of a word, for C and Rust: slices arrive as pointer and length.
 #![tactic(auto)]
+
 ghost use Rattle.std.specs.Prelude.{◌≡◌};
 ghost use Rattle.average.specs.Average.{average_of};
 ghost use Rattle.set_whole.specs.Calls.{equal_of};

@@ -1,6 +1,7 @@
 // A cursor as ten lent words, for callers that keep it as plain numbers: masks in words 0 to 3, prefixes in words 5 to 7, the reads of the
 // last call in word 9. Words 4 and 8 are room for a fifth layer.
 #![tactic(auto)]
+
 ghost use Rattle.std.specs.Prelude.{◌≡◌};
 ghost use Rattle.export_cursor.specs.Ten.{prefix_of, cursor_of, cursor_words};
 

@@ -1,5 +1,6 @@
 // The directory over a store, for C and Rust: slices arrive as pointer and length.
 #![tactic(auto)]
+
 ghost use Rattle.std.specs.Prelude.{◌≡◌};
 ghost use Rattle.directory.specs.Calls.{directory, directory_open_of, give_of, take_back_of};
 ghost use Rattle.export_answer.specs.Abi.{answer_of};

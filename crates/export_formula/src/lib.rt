@@ -1,6 +1,7 @@
 // What is asked of a formula, and the start of a walk over it, for C and Rust: codes and slices arrive as pointer and length, a cursor as ten
 // words.
 #![tactic(auto)]
+
 ghost use Rattle.std.specs.Prelude.{◌≡◌};
 ghost use Rattle.formula_codes.specs.Tree.{four};
 ghost use Rattle.formula_ask.specs.Calls.{formula_contains_of, formula_is_empty_of, layer_word_of};

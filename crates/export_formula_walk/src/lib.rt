@@ -1,6 +1,7 @@
 // The walk over a formula for C and Rust, once it is started. It has an archive of its own, in which the word of a formula has one caller, so
 // that the compiler places it inside the loop.
 #![tactic(auto)]
+
 ghost use Rattle.std.specs.Prelude.{◌≡◌};
 ghost use Rattle.formula_codes.specs.Tree.{four};
 ghost use Rattle.export_step.specs.Answers.{moved_of, cursor_after, stopped_of, fill_words_of, out_of};

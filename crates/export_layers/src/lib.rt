@@ -1,5 +1,6 @@
 // Reading the layers, for C and Rust: slices arrive as pointer and length, and a layer is told by where it stands.
 #![tactic(auto)]
+
 ghost use Rattle.std.specs.Prelude.{◌≡◌, ◌<◌};
 ghost use Rattle.set_layers.specs.Calls.{word_of};
 ghost use Rattle.export_answer.specs.Abi.{answer_of};

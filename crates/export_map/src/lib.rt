@@ -1,5 +1,6 @@
 // The chunk map for C and Rust: slices arrive as pointer and length.
 #![tactic(auto)]
+
 ghost use Rattle.std.specs.Prelude.{[], ◌∷◌, ◌≡◌};
 ghost use Rattle.map_write.specs.Answer.{wrote_paper};
 ghost use Rattle.map_write.specs.Calls.{map_length_of, write_of};

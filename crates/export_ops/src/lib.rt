@@ -1,5 +1,6 @@
 // Or, and, xor in place for C and Rust: slices arrive as pointer and length.
 #![tactic(auto)]
+
 ghost use Rattle.std.specs.Prelude.{◌≡◌};
 ghost use Rattle.ops_merge.specs.Calls.{assign_of};
 ghost use Rattle.export_answer.specs.Abi.{answer_of};

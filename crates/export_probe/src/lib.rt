@@ -1,6 +1,7 @@
 // What the comparison asks of the port and the header for C does not have (oracle/probe.h): the places of an id's bits, and the reader's
 // first step.
 #![tactic(auto)]
+
 ghost use Rattle.std.specs.Prelude.{[], ◌∷◌, ◌≡◌};
 ghost use Rattle.util.specs.Row.{row_of, offset_of, mask_of};
 ghost use Rattle.export_step.specs.Answers.{moved_of};

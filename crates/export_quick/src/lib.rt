@@ -1,5 +1,6 @@
 // The next member of a walk whose cursor is kept as ten words, where it costs no read: it is handed out from the words alone.
 #![tactic(auto)]
+
 ghost use Rattle.std.specs.Prelude.{◌≡◌, ◌<◌, get_or};
 ghost use Rattle.store.specs.Layout.{max_cap};
 ghost use Rattle.export_quick.specs.Handing.{ready_of, handed_id, handed_of, quick_of, quick_words};

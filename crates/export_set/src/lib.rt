@@ -1,5 +1,6 @@
 // The calls on ids and the free search, for C and Rust: slices arrive as pointer and length.
 #![tactic(auto)]
+
 ghost use Rattle.std.specs.Prelude.{◌≡◌};
 ghost use Rattle.set_member.specs.Calls.{contains_of};
 ghost use Rattle.set_edit.specs.Calls.{add_of, remove_of, add_list_of};

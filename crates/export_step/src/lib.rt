@@ -1,5 +1,6 @@
 // What a call of the walk says to a caller in C, and what it leaves in the ten words of its cursor.
 #![tactic(auto)]
+
 ghost use Rattle.std.specs.Prelude.{◌≡◌};
 ghost use Rattle.export_step.specs.Answers.{step_of, stop_of, left_of, moved_of, cursor_after};
 

@@ -1,5 +1,6 @@
 // The version, for C and Rust.
 #![tactic(auto)]
+
 ghost use Rattle.std.specs.Prelude.{◌≡◌};
 ghost use Rattle.export_version.specs.Version.{version};
 

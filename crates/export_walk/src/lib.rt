@@ -1,5 +1,6 @@
 // The walk for C and Rust: slices arrive as pointer and length, a cursor as ten words.
 #![tactic(auto)]
+
 ghost use Rattle.std.specs.Prelude.{◌≡◌};
 ghost use Rattle.export_step.specs.Answers.{moved_of, cursor_after, stopped_of, fill_words_of, out_of};
 ghost use Rattle.export_walk.specs.Walk.{walk_started, walk_stepped, walk_filled};

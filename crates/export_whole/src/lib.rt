@@ -1,5 +1,6 @@
 // The calls on a whole store, for C and Rust: slices arrive as pointer and length.
 #![tactic(auto)]
+
 ghost use Rattle.std.specs.Prelude.{◌≡◌};
 ghost use Rattle.set_whole.specs.Calls.{open_of, clear_of, is_empty_of};
 ghost use Rattle.summary.specs.Calls.{rebuild_of};

@@ -8,7 +8,7 @@ use Rattle.export_answer.proofs.Tells.{tells_paper}
 use Rattle.export_answer.proofs.asked.Goals as goal
 
 pub returns-in-Is : goal.returns-in-Is
-returns-in-Is c = tells_paper asked_paper (c.value.ensures ∙ ap (λ (v : ℕ). answer_of (0 ∷ v ∷ [])) c.yes.ensures) c.r-1.given.1
+returns-in-Is c = tells_paper asked_paper (c.value.ensures ∙ ap (λ (v : ℕ). answer_of (0 ∷ v ∷ [])) c.yes.ensures) c.in-Is.is
 
 pub returns-in-Refused : goal.returns-in-Refused
-returns-in-Refused c = tells_paper asked_paper c.refused.ensures c.r-in-Refused-1.given.1
+returns-in-Refused c = tells_paper asked_paper c.refused.ensures c.in-Refused.is

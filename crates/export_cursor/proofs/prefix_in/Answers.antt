@@ -5,8 +5,8 @@ use Rattle.export_cursor.proofs.prefix_in.Goals as goal
 
 pub returns-then-w-lt4294967296 : goal.returns-then-w-lt4294967296
 unfolding prefix_of
-returns-then-w-lt4294967296 c = omega (arith, c.if-w-lt4294967296.true)
+returns-then-w-lt4294967296 c = omega arith
 
 pub returns-else-w-lt4294967296 : goal.returns-else-w-lt4294967296
 unfolding prefix_of
-returns-else-w-lt4294967296 c = omega (arith, c.if-w-lt4294967296.false)
+returns-else-w-lt4294967296 c = omega arith

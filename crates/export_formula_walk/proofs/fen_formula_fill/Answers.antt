@@ -1,31 +1,21 @@
 -- `export_formula_walk::fen_formula_fill` meets its contract.
-use mathlib.Core.Path.{◌≡◌, ap, ◌∙◌}
+use mathlib.Core.Path.{ap, ◌∙◌}
 use lib.ListN.{length}
 use Rattle.walk.specs.declared.Cursor.{Cursor}
-use Rattle.walk_fill.specs.Fill.{Filled, batch}
+use Rattle.walk_fill.specs.Fill.{batch}
 use Rattle.walk_fill.specs.declared.Batch.{Batch}
 use Rattle.walk_fill.proofs.Fills.{the_batch}
 use Rattle.formula_codes.specs.Tree.{four}
 use Rattle.formula_fill.specs.Calls.{formula_fill_in}
-use Rattle.export_cursor.specs.Ten.{cursor_of}
-use Rattle.export_step.specs.Answers.{stop_of, left_of, out_of}
+use Rattle.export_step.specs.Answers.{stop_of, left_of}
 use Rattle.export_formula_walk.proofs.fen_formula_fill.Goals as goal
 
-pub returns : goal.returns
-returns c =
-    let n = c.before.before.before.before in
-    let t = n.before.before in
-    let a = t.args in
+pub returns-clause-cursor_after : goal.returns-clause-cursor_after
+returns-clause-cursor_after c =
+    let a = c.args in
     let ss = four a.s0.now a.s1.now a.s2.now a.s3.now in
-    let cs = a.codes.now in
-    let l = a.cursor.now in
-    let o = a.out-1.now in
-    let f = formula_fill_in ss cs t.cursor_in-c.result a.budget (length o) in
-    let e : f ≡ formula_fill_in ss cs (cursor_of l) a.budget (length o) = ap (λ (x : Cursor). formula_fill_in ss cs x a.budget (length o)) t.cursor_in-c.ensures in
-    let g : n.fill-b.result ≡ batch (formula_fill_in ss cs (cursor_of l) a.budget (length o)) = the_batch f o n.fill-b.ensures ∙ ap batch e in (
-      c.told_batch.ensures.0 ∙ ap (λ (x : Batch). stop_of x.stop x.count) g,
-      (
-        c.told_batch.ensures.1 ∙ ap (λ (x : Batch). left_of (stop_of x.stop x.count) l x.cursor x.reads) g,
-        n.fill-b.ensures.memory ∙ ap (λ (x : Filled). out_of x o) e,
-      ),
-    )
+    let o = a.out.now in
+    c.told_batch.ensures.words_after
+    ∙ ap (λ (x : Batch). left_of (stop_of x.stop x.count) a.cursor.now x.cursor x.reads)
+    (the_batch (formula_fill_in ss a.codes.now c.cursor_in-c.result a.budget (length o)) o c.fill-b.ensures
+    ∙ ap (λ (x : Cursor). batch (formula_fill_in ss a.codes.now x a.budget (length o))) c.cursor_in-c.ensures)

@@ -1,7 +1,5 @@
--- `export_layers::part` meets its contract.
-use Prim.Native.Nat.{◌≤◌}
+-- `export_layers::part` meets its contract: past the test the slice is a store, and a layer that is handed back is one of its layers.
 use native.Mathlib.Omega.{arith}
-use Rattle.store.specs.Layout.{top, StoreOf}
 use Rattle.store.proofs.TopLayer.{top_low}
 use Rattle.store.proofs.Ends.{part, some_store, no_store}
 use Rattle.export_layers.proofs.Parts.{span_none, span_is}
@@ -9,29 +7,16 @@ use Rattle.export_layers.proofs.part.Goals as goal
 
 pub returns-then-n-eq0 : goal.returns-then-n-eq0
 returns-then-n-eq0 c =
-    let t = c.before in
-    let a = t.args in
-    span_none a.store.now a.k (no_store a.store.now t.capacity-n.ensures c.if-n-eq0.true)
+    let a = c.args in
+    span_none a.store.now a.k (no_store a.store.now c.capacity-n.ensures c.if-n-eq0.true)
 
 pub overflow_sub-result : goal.overflow_sub-result
 overflow_sub-result c =
-    -- past the test the slice is a store
-    let store_here : StoreOf c.capacity-n.result c.args.store.now =
-        some_store c.args.store.now c.capacity-n.ensures c.if-n-eq0.false in
-    -- a layer that is handed back is one of the store's
-    let below_top : c.args.k ≤ top c.capacity-n.result =
-        omega (arith, c.requires, top_low c.capacity-n.result) in
-    let e = c.before.before in
-    let p = part store_here e.args.k below_top in
-    omega (arith, c.start-a.ensures, c.end-e.ensures, p.starts, p.ends, p.size)
+    let store_here = some_store c.args.store.now c.capacity-n.ensures c.if-n-eq0.false in
+    let p = part store_here c.args.k (omega (arith, top_low c.capacity-n.result)) in
+    omega arith
 
 pub returns : goal.returns
 returns c =
-    -- past the test the slice is a store
-    let store_here : StoreOf c.capacity-n.result c.args.store.now =
-        some_store c.args.store.now c.capacity-n.ensures c.if-n-eq0.false in
-    -- a layer that is handed back is one of the store's
-    let below_top : c.args.k ≤ top c.capacity-n.result =
-        omega (arith, c.requires, top_low c.capacity-n.result) in
-    let e = c.before.before in
-    span_is store_here e.args.k _ _ below_top c.start-a.ensures c.end-e.ensures
+    let store_here = some_store c.args.store.now c.capacity-n.ensures c.if-n-eq0.false in
+    span_is store_here c.args.k _ _ (omega (arith, top_low c.capacity-n.result)) c.start-a.ensures c.end-e.ensures

@@ -3,5 +3,5 @@ use Rattle.store.specs.Answer.{asked_paper}
 use Rattle.export_answer.proofs.Tells.{tells}
 use Rattle.export_set.proofs.fen_add.Goals as goal
 
-pub returns : goal.returns
-returns c = (tells asked_paper c.add.ensures c.asked.ensures, c.add.ensures.memory)
+pub returns-clause-value : goal.returns-clause-value
+returns-clause-value c = tells asked_paper c.add.ensures c.asked.ensures

@@ -3,5 +3,5 @@ use Rattle.store.specs.Answer.{did_paper}
 use Rattle.export_answer.proofs.Tells.{tells}
 use Rattle.export_set.proofs.fen_add_list.Goals as goal
 
-pub returns : goal.returns
-returns c = (tells did_paper c.add_list.ensures c.did.ensures, c.add_list.ensures.memory)
+pub returns-clause-value : goal.returns-clause-value
+returns-clause-value c = tells did_paper c.add_list.ensures c.did.ensures
