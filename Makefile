@@ -9,7 +9,7 @@ PREFIX ?= /usr/local
 # Builds the listing program from proved crates and runs it.
 run:
 	@echo 'proving listing and the crates that it stands on: target/build.log' >&2
-	@tools/proving target/build.log rt check listing
+	@tools/proving target/build.log crates/listing rt check
 	@tools/run listing <$(IN)
 
 # The gate: formatting, proofs, must-fail edits, programs, comparison with the Rust.
