@@ -1,8 +1,12 @@
 -- Where the layers end as plain divisions, and what a caller learns from the store test.
-use Rattle.std.proofs.Common.{◌≡◌, ℕ, zero, suc, ◌+◌, ◌-◌, ◌/◌, ◌%◌, ◌^◌, ◌<◌, ◌≤◌, Bool, true, false, cond, leb, ◌≢◌, List, [], ◌∷◌, map, length, get_or, take, drop, sym, refl, ap, ◌∙◌, subst, arith, length-drop, take_all, eq-eqb, ne_eqb, leb-true}
+use Rattle.std.proofs.Common.{◌≡◌, ℕ, zero, suc, ◌+◌, ◌-◌, ◌/◌, ◌%◌, ◌^◌, ◌<◌, ◌≤◌, Bool, true, false, leb, ◌≢◌, List, [], ◌∷◌, map, length, get_or, take, drop, sym, refl, ap, ◌∙◌, subst, arith, length-drop, take_all, eq-eqb, ne_eqb, leb-true, true≢false, le-leb, ltb}
 use Rattle.util.proofs.Same.{both}
 use Rattle.store.specs.Build.{layer0}
-use Rattle.store.specs.Layout.{header, top, max_cap, is_cap, words, room, span, layer_len, layer_end, layer_start, store_len, cap, is_store, StoreOf, folded, end_of, words_for, start_from, id_word_of, capacity_of, top_word}
+use Rattle.store.specs.Layout.{header, top, max_cap, is_cap, words, room, span, layer_len, layer_end, layer_start, store_len, cap, is_store, StoreOf, folded, end_of, words_for, start_from, id_word_of, top_word}
+use Rattle.std.specs.Prelude.{Result, Ok, Err}
+use Rattle.store.specs.Answer.{tested}
+use Rattle.store.specs.declared.Refusal.{Refusal}
+use Rattle.store.specs.declared.Refusal.TheVariants.{NoStore}
 use Rattle.store.specs.Word.{word}
 use Rattle.store.proofs.Geometry.{store_is, room_closed, end_top, end_step, end_past, within}
 use Rattle.store.proofs.TopLayer.{top_low, top_high, top_one}
@@ -110,39 +114,61 @@ pub cap_in_lem : (N : ℕ) → is_cap N ≡ true → (1 ≤ N) × (N ≤ max_cap
 unfolding is_cap
 cap_in_lem N h = let b = both (leb 1 N) (leb N max_cap) h in (leb-true 1 N b.0, leb-true N max_cap b.1)
 
+pub capacity_some : (n : ℕ) → 0 < n → leb n max_cap ≡ is_cap n
+unfolding is_cap
+capacity_some n h = sym (rw (le-leb 1 n h))
+
+pub capacity_zero : (n : ℕ) → n ≤ 0 → ltb 0 n ≡ is_cap n
+unfolding is_cap
+capacity_zero n h = let e : n ≡ 0 = omega (arith, h) in rw e
+
 pub end_cap : (N k : ℕ) → is_cap N ≡ true → end_of N k ≡ layer_end N k
 end_cap N k h = let b = cap_in_lem N h in end_is N k b.0 b.1
 
 module _ (s : List ℕ) where
-  pub capacity_none : is_cap (cap s) ≡ false → 0 ≡ capacity_of s
-  unfolding capacity_of is_store
+  pub capacity_none : is_cap (cap s) ≡ false → Err NoStore ≡ tested s
+  unfolding is_store
   capacity_none h = sym (rw h)
 
   module _ (h : is_cap (cap s) ≡ true) where
-    pub capacity_long : length s ≡ store_len (cap s) → cap s ≡ capacity_of s
-    unfolding capacity_of is_store
+    pub capacity_long : length s ≡ store_len (cap s) → Ok (cap s) ≡ tested s
+    unfolding is_store
     capacity_long l = sym (rw (h, eq-eqb (length s) (store_len (cap s)) l))
 
-    pub capacity_short : length s ≢ store_len (cap s) → 0 ≡ capacity_of s
-    unfolding capacity_of is_store
+    pub capacity_short : length s ≢ store_len (cap s) → Err NoStore ≡ tested s
+    unfolding is_store
     capacity_short l = sym (rw (h, ne_eqb (length s) (store_len (cap s)) l))
 
 -- its answer is a capacity exactly for a store
-pub some_store : {n : ℕ} (s : List ℕ) → n ≡ capacity_of s → n ≢ 0 → StoreOf n s
-unfolding capacity_of
-some_store {n} s e h = go (is_store s) refl
-  where
-    go : (b : Bool) → is_store s ≡ b → StoreOf n s
-    go true p = let q : n ≡ cap s = e ∙ rw p in subst (λ (x : ℕ). StoreOf x s) (sym q) (store_is p)
-    go false p = absurd (h (e ∙ rw p))
+abbrev ok_of : Result ℕ Refusal → ℕ
+ok_of (Ok n) = n
+ok_of (Err e) = 0
 
-pub no_store : {n : ℕ} (s : List ℕ) → n ≡ capacity_of s → n ≡ 0 → is_store s ≡ false
-unfolding capacity_of
-no_store {n} s e h = go (is_store s) refl
-  where
-    go : (b : Bool) → is_store s ≡ b → is_store s ≡ false
-    go true p = let z = store_is p in absurd (omega (arith, z.some, sym h ∙ e ∙ ap (λ (b : Bool). cond b (cap s) 0) p))
-    go false p = p
+abbrev err_of : Result ℕ Refusal → Refusal
+err_of (Ok n) = NoStore
+err_of (Err e) = e
+
+abbrev is_ok_of : Result ℕ Refusal → Bool
+is_ok_of (Ok n) = true
+is_ok_of (Err e) = false
+
+module _ {r : Result ℕ Refusal} (s : List ℕ) (e : r ≡ tested s) where
+  pub some_store : {n : ℕ} → r ≡ Ok n → StoreOf n s
+  some_store {n} h = go (is_store s) refl
+    where
+      go : (b : Bool) → is_store s ≡ b → StoreOf n s
+      go true p = let t : tested s ≡ Ok (cap s) = rw p in let q : n ≡ cap s = ap ok_of (sym h ∙ e ∙ t) in subst (λ (x : ℕ). StoreOf x s) (sym q) (store_is p)
+      go false p = let t : tested s ≡ Err NoStore = rw p in absurd (true≢false (ap is_ok_of (sym h ∙ e ∙ t)))
+
+  pub no_store : {x : Refusal} → r ≡ Err x → is_store s ≡ false
+  no_store h = go (is_store s) refl
+    where
+      go : (b : Bool) → is_store s ≡ b → is_store s ≡ false
+      go true p = let t : tested s ≡ Ok (cap s) = rw p in absurd (true≢false (sym (ap is_ok_of (sym h ∙ e ∙ t))))
+      go false p = p
+
+  pub no_store_is : {x : Refusal} → r ≡ Err x → x ≡ NoStore
+  no_store_is {x} h = let t : tested s ≡ Err NoStore = rw (no_store h) in ap err_of (sym h ∙ e ∙ t)
 
 -- ---- layer k as a part of its store: where it starts and ends, and that it lies inside
 

@@ -8,3 +8,4 @@ pub mod Ends
 pub mod Papers
 pub mod Parts
 pub mod Answers
+pub mod Judged

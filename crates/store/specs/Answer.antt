@@ -1,15 +1,11 @@
 -- The answers that calls share, on paper. Document 01: "Each returns its number and zeros elsewhere": an answer's first number is the
 -- refusal's, 0 for none, and its value stands second; a refusal is its number alone, and reads 0 elsewhere.
-use Rattle.std.specs.Prelude.{◌≡◌, ℕ, Bool, true, false, cond, List, [], ◌∷◌, ◌==◌, slice_index, refl}
+use Rattle.std.specs.Prelude.{◌≡◌, ℕ, Bool, true, false, cond, List, [], ◌∷◌, ◌==◌, slice_index, Result, Ok, Err, refl}
+use Rattle.std.proofs.Common.{ap}
 use Rattle.util.specs.Outcome.{Outcome, Paper}
-use Rattle.store.specs.declared.Asked.{Asked}
-use Rattle.store.specs.declared.Asked.TheVariants.{Is, Refused as AskedRefused}
-use Rattle.store.specs.declared.Did.{Did}
-use Rattle.store.specs.declared.Did.TheVariants.{Done, Refused as DidRefused}
-use Rattle.store.specs.declared.Found.{Found}
-use Rattle.store.specs.declared.Found.TheVariants.{At, Refused as FoundRefused}
-use Rattle.store.specs.declared.Read.{Read}
-use Rattle.store.specs.declared.Read.TheVariants.{Word, Refused as ReadRefused}
+use Rattle.store.specs.Layout.{cap, is_store}
+use Rattle.store.specs.declared.Refusal.{Refusal}
+use Rattle.store.specs.declared.Refusal.TheVariants.{Capacity, NoStore, Id, Layer, Capacities, Formula, Cursor, Buffer, Header, Entry, Members, Full, Owners, Item, Owner}
 
 -- outcomes: a value, yes or no as 1 or 0, done as 0; and a refusal
 abbrev pub gives : {X : Type 0} → ℕ → X → Outcome X
@@ -31,60 +27,84 @@ refusal_number o = slice_index o.numbers 0
 abbrev pub value_of : {X : Type 0} → Outcome X → ℕ
 value_of o = slice_index o.numbers 1
 
--- an answer that is a value or a refusal, read off its numbers
-abbrev read_back : {R : Type 0} → (ℕ → R) → (ℕ → R) → List ℕ → R
-read_back value refused [] = refused 0
-read_back value refused (n ∷ []) = refused n
-read_back value refused (n ∷ v ∷ l) = value v
+-- ---- refusals by number
 
--- ---- yes or no
+-- the tables "Refusals by number" of document 01, and those of document 02
+abbrev pub number : Refusal → ℕ
+number Capacity = 1
+number NoStore = 2
+number Id = 3
+number Layer = 4
+number Capacities = 5
+number Formula = 6
+number Cursor = 7
+number Buffer = 8
+number Header = 9
+number Entry = 10
+number Members = 11
+number Full = 12
+number Owners = 13
+number Item = 14
+number Owner = 15
 
-abbrev asked : Asked → List ℕ
-asked (Is b) = 0 ∷ cond b 1 0 ∷ []
-asked (AskedRefused n) = n ∷ []
+-- the refusal of a number
+abbrev nth_refusal : List Refusal → ℕ → Refusal
+nth_refusal [] n = Owner
+nth_refusal (e ∷ l) n = cond (number e == n) e (nth_refusal l n)
 
-abbrev pub asked_paper : Paper Asked
+abbrev pub refusals : List Refusal
+refusals = Capacity ∷ NoStore ∷ Id ∷ Layer ∷ Capacities ∷ Formula ∷ Cursor ∷ Buffer ∷ Header ∷ Entry ∷ Members ∷ Full ∷ Owners ∷ Item ∷ Owner ∷ []
+
+unfoldable pub numbered : ℕ → Refusal
+numbered = nth_refusal refusals
+
+pub numbered_number : (e : Refusal) → numbered (number e) ≡ e
+unfolding numbered
+numbered_number e = elim e as (λ x. numbered (number x) ≡ x) [ Capacity ↦ refl | NoStore ↦ refl | Id ↦ refl | Layer ↦ refl | Capacities ↦ refl | Formula ↦ refl | Cursor ↦ refl | Buffer ↦ refl | Header ↦ refl | Entry ↦ refl | Members ↦ refl | Full ↦ refl | Owners ↦ refl | Item ↦ refl | Owner ↦ refl ]
+
+abbrev pub refused : {A : Type 0} → ℕ → Result A Refusal
+refused n = Err (numbered n)
+
+-- ---- a value or a refusal, on paper
+
+abbrev on_paper : {A : Type 0} → (A → ℕ) → Result A Refusal → List ℕ
+on_paper to (Ok a) = 0 ∷ to a ∷ []
+on_paper to (Err e) = number e ∷ []
+
+-- read off the numbers
+abbrev read_back : {A : Type 0} → (ℕ → A) → List ℕ → Result A Refusal
+read_back from [] = refused 0
+read_back from (n ∷ []) = refused n
+read_back from (n ∷ v ∷ l) = Ok (from v)
+
+-- yes or no
+abbrev pub asked_paper : Paper (Result Bool Refusal)
 asked_paper = record {
-  numbers = asked;
-  answer = read_back (λ v. Is (v == 1)) AskedRefused;
-  same = λ r. elim r as (λ x. read_back (λ v. Is (v == 1)) AskedRefused (asked x) ≡ x) [ Is b ↦ elim b as (λ x. read_back (λ v. Is (v == 1)) AskedRefused (asked (Is x)) ≡ Is x) [ true ↦ refl | false ↦ refl ] | AskedRefused n ↦ refl ];
+  numbers = on_paper (λ b. cond b 1 0);
+  answer = read_back (λ v. v == 1);
+  same = λ r. elim r as (λ x. read_back (λ v. v == 1) (on_paper (λ b. cond b 1 0) x) ≡ x) [ Ok b ↦ ap Ok (elim b as (λ x. (cond x 1 0 == 1) ≡ x) [ true ↦ refl | false ↦ refl ]) | Err e ↦ ap Err (numbered_number e) ];
 }
 
--- ---- done
-
-abbrev did : Did → List ℕ
-did Done = 0 ∷ 0 ∷ []
-did (DidRefused n) = n ∷ []
-
-abbrev pub did_paper : Paper Did
+-- done
+abbrev pub did_paper : Paper (Result (Unit {0}) Refusal)
 did_paper = record {
-  numbers = did;
-  answer = read_back (λ v. Done) DidRefused;
-  same = λ r. elim r as (λ x. read_back (λ v. Done) DidRefused (did x) ≡ x) [ Done ↦ refl | DidRefused n ↦ refl ];
+  numbers = on_paper (λ _. 0);
+  answer = read_back (λ _. tt);
+  same = λ r. elim r as (λ x. read_back (λ _. tt) (on_paper (λ _. 0) x) ≡ x) [ Ok u ↦ refl | Err e ↦ ap Err (numbered_number e) ];
 }
 
--- ---- an id
-
-abbrev found : Found → List ℕ
-found (At i) = 0 ∷ i ∷ []
-found (FoundRefused n) = n ∷ []
-
-abbrev pub found_paper : Paper Found
-found_paper = record {
-  numbers = found;
-  answer = read_back At FoundRefused;
-  same = λ r. elim r as (λ x. read_back At FoundRefused (found x) ≡ x) [ At i ↦ refl | FoundRefused n ↦ refl ];
+-- a number: an id, a word, a length, a capacity
+abbrev pub number_paper : Paper (Result ℕ Refusal)
+number_paper = record {
+  numbers = on_paper (λ n. n);
+  answer = read_back (λ n. n);
+  same = λ r. elim r as (λ x. read_back (λ n. n) (on_paper (λ n. n) x) ≡ x) [ Ok n ↦ refl | Err e ↦ ap Err (numbered_number e) ];
 }
 
--- ---- a word
+-- what the store test answers
+abbrev pub tested : List ℕ → Result ℕ Refusal
+tested s = cond (is_store s) (Ok (cap s)) (Err NoStore)
 
-abbrev read : Read → List ℕ
-read (Word w) = 0 ∷ w ∷ []
-read (ReadRefused n) = n ∷ []
-
-abbrev pub read_paper : Paper Read
-read_paper = record {
-  numbers = read;
-  answer = read_back Word ReadRefused;
-  same = λ r. elim r as (λ x. read_back Word ReadRefused (read x) ≡ x) [ Word w ↦ refl | ReadRefused n ↦ refl ];
-}
+-- what a judge answers, by the number of what stands in the way, 0 being nothing
+abbrev pub judged : ℕ → Result (Unit {0}) Refusal
+judged n = cond (n == 0) (Ok tt) (refused n)

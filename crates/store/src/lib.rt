@@ -3,34 +3,51 @@
 #![tactic(auto)]
 
 ghost use Rattle.std.specs.Prelude.{◌≡◌, ◌≤◌, slice_index, slice_set};
-ghost use Rattle.store.specs.Layout.{top, max_cap, is_cap, store_len, words_for, cap, end_of, start_from, id_word_of, capacity_of, top_word};
+ghost use Rattle.store.specs.Layout.{top, max_cap, is_cap, store_len, words_for, cap, end_of, start_from, id_word_of, top_word};
+ghost use Rattle.store.specs.Answer.{number, tested};
 
-// Yes or no, or the refusal's number.
-#[derive(Clone, Copy)]
-pub enum Asked {
-    Is(bool),
-    Refused(u32),
+// Why a call refuses, by the numbers of the tables in the documents 01 and 02. What stays as it was is said by each call.
+#[derive(Clone, Copy, PartialEq, Eq)]
+pub enum Refusal {
+    // opening: the capacity is 0 or too large
+    Capacity = 1,
+    // the slice is no store
+    NoStore,
+    // an id at or past the capacity
+    Id,
+    // a layer number above the top layer's
+    Layer,
+    // capacities differ
+    Capacities,
+    // the codes are no formula over the stores
+    Formula,
+    // the cursor's prefixes are none
+    Cursor,
+    // the buffer is shorter than the map
+    Buffer,
+    // the map's header is none
+    Header,
+    // an entry of the map
+    Entry,
+    // the map's member count is not that of its entries
+    Members,
+    // no id is free
+    Full,
+    // the owner bytes are not one for each id
+    Owners,
+    // an item's number
+    Item,
+    // the chunk is not the item's
+    Owner,
 }
 
-// Done, or the refusal's number.
-#[derive(Clone, Copy)]
-pub enum Did {
-    Done,
-    Refused(u32),
-}
+impl From<Refusal> for u32 {
+    ghost from_gives = { λ r n. n ≡ number r };
 
-// An id, or the refusal's number.
-#[derive(Clone, Copy)]
-pub enum Found {
-    At(u32),
-    Refused(u32),
-}
-
-// A word, or the refusal's number.
-#[derive(Clone, Copy)]
-pub enum Read {
-    Word(u64),
-    Refused(u32),
+    // Its number in the tables.
+    fn from(r: Refusal) -> u32 {
+        r as u32
+    }
 }
 
 // The words before the layers: word 0 holds the capacity.
@@ -45,13 +62,11 @@ pub const TOP: usize = 3;
 pub const LAYERS: usize = TOP + 1;
 
 // Whether a store may have so many ids.
+#[tactic(auto, using(crate::proofs::Ends::capacity_some, crate::proofs::Ends::capacity_zero))]
 pub fn is_capacity(n: usize) -> bool
     ensures { result ≡ is_cap n }
 {
-    if n == 0 {
-        return false;
-    }
-    n <= MOST
+    0 < n && n <= MOST
 }
 
 // The number of the top layer of a store of capacity n. It has one word, which stands behind the header.
@@ -127,15 +142,16 @@ pub fn name(store: &mut [u64], n: usize)
     put(store, 0, n as u64);
 }
 
-// The store test: the capacity that word 0 names, if the slice has its length; else 0, which is none.
-pub fn capacity(store: &[u64]) -> usize
-    ensures { result ≡ capacity_of store.now }
+// The store test: the capacity that word 0 names, if the slice has its length.
+pub fn capacity(store: &[u64]) -> Result<usize, Refusal>
+    ensures { result ≡ tested store.now }
 {
     let n = named(store);
-    if is_capacity(n) {
-        return if store.len() == length(n) { n } else { 0 };
+    if is_capacity(n) && store.len() == length(n) {
+        Ok(n)
+    } else {
+        Err(Refusal::NoStore)
     }
-    0
 }
 
 // The word of the top layer.
@@ -149,7 +165,7 @@ pub fn top_word(store: &[u64]) -> u64
 pub fn get(layer: &[u64], i: usize) -> u64
     ensures { result ≡ slice_index layer.now i }
 {
-    if i < layer.len() { layer[i] } else { 0 }
+    layer.get(i).copied().unwrap_or(0)
 }
 
 // The word-writing leaf: word i of a layer, lent as a part of its store, becomes w; nothing happens past its end.
@@ -158,6 +174,5 @@ pub fn put(layer: &mut [u64], i: usize, w: u64)
 {
     if i < layer.len() {
         layer[i] = w;
-        return;
     }
 }
