@@ -9,3 +9,4 @@ pub mod Papers
 pub mod Parts
 pub mod Answers
 pub mod Judged
+pub mod Exits
