@@ -19,7 +19,7 @@ use Rattle.util.proofs.Count.{count_ones}
 use Rattle.util.proofs.Places.{places_none, places-one}
 use Rattle.average.specs.Average.{paper, splits, average_of}
 use Rattle.average.specs.Search.{bits_above}
-use Rattle.average.specs.declared.Half.TheVariants.{At, Nothing}
+use Rattle.std.specs.Prelude.{Some, None}
 use Rattle.average.proofs.Tally.{above_split, above_step}
 
 module _ (n : ℕ) (word : n < 2 ^ 64) where
@@ -65,7 +65,7 @@ module _ (n : ℕ) (word : n < 2 ^ 64) where
           absurd (omega (arith, step p, falls (suc p) (q - suc p), ap (bits_above n) z))
 
   -- the place whose bits above are too few, and those from it on enough
-  pub found : (p : ℕ) → p < 64 → bits_above n (suc p) < ones n / 2 → ones n / 2 ≤ bits_above n p → Settled paper (average_of n) (At p) tt
+  pub found : (p : ℕ) → p < 64 → bits_above n (suc p) < ones n / 2 → ones n / 2 ≤ bits_above n p → Settled paper (average_of n) (Some p) tt
   unfolding average_of
   found p l lo hi =
       let b : bit n p ≡ 1 = omega (arith, step p, bit_lt n p) in
@@ -77,7 +77,7 @@ module _ (n : ℕ) (word : n < 2 ^ 64) where
       }
 
   -- no bit splits a word with at most one set bit
-  pub none_found : ones n ≤ 1 → Settled paper (average_of n) Nothing tt
+  pub none_found : ones n ≤ 1 → Settled paper (average_of n) None tt
   unfolding average_of
   none_found c =
       record {

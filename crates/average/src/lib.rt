@@ -6,13 +6,6 @@ ghost use Rattle.util.specs.Outcome.{Settled};
 ghost use Rattle.average.specs.Average.{paper, average_of};
 ghost use Rattle.average.specs.Search.{Tallied, HalfStep, InRange};
 
-// The bit that splits a word's set bits, or none.
-#[derive(Clone, Copy)]
-pub enum Half {
-    At(u64),
-    Nothing,
-}
-
 // Masks of every other field of 1, 2, 4, 8, 16 and 32 bits.
 const PAR0: u64 = !0 / 0x3;
 
@@ -57,52 +50,53 @@ struct Search {
     cur: u64,
 }
 
-// One step down: to the upper or the lower half of the field, by whether the upper one has enough set bits. `child` has the counts of
-// the fields of `stride` bits, and `mask` keeps one.
-fn descend(s: Search, child: u64, stride: u64, mask: u64) -> Search
-    requires { (n : ℕ) × (t : ℕ) × HalfStep n t s child stride mask }
-    ensures { (n t : ℕ) → HalfStep n t s child stride mask → InRange n t stride result }
-{
-    if s.cur < s.target {
-        let result = s.result - 2 * stride;
-        Search {
-            result,
-            target: s.target - s.cur,
-            cur: (child >> (result - stride)) & mask,
-        }
-    } else {
-        Search {
-            result: s.result,
-            target: s.target,
-            cur: (child >> (s.result - stride)) & mask,
+impl Search {
+    // One step down: to the upper or the lower half of the field, by whether the upper one has enough set bits. `child` has the counts
+    // of the fields of `stride` bits, and `mask` keeps one.
+    fn descend(self, child: u64, stride: u64, mask: u64) -> Search
+        requires { (n : ℕ) × (t : ℕ) × HalfStep n t self child stride mask }
+        ensures { (n t : ℕ) → HalfStep n t self child stride mask → InRange n t stride result }
+    {
+        if self.cur < self.target {
+            let result = self.result - 2 * stride;
+            Search {
+                result,
+                target: self.target - self.cur,
+                cur: (child >> (result - stride)) & mask,
+            }
+        } else {
+            Search {
+                cur: (child >> (self.result - stride)) & mask,
+                ..self
+            }
         }
     }
 }
 
 // The set bit that has half of the set bits, rounded down, at or above it; none if fewer than two are set.
-pub fn average_ones(n: u64) -> Half
+pub fn average_ones(n: u64) -> Option<u64>
     ensures { Settled paper (average_of n) result tt }
 {
     let l = count_fields(n);
-    let e = l.e;
-    let cur = e >> 32;
-    let count = (e + cur) & PAR5;
+    let cur = l.e >> 32;
+    let count = (l.e + cur) & PAR5;
     if count <= 1 {
-        return Half::Nothing;
+        return None;
     }
     let whole = Search {
         result: 64,
         target: count / 2,
         cur,
     };
-    let s16 = descend(whole, l.d, 16, 255);
-    let s8 = descend(s16, l.c, 8, 15);
-    let s4 = descend(s8, l.b, 4, 7);
-    let s2 = descend(s4, l.a, 2, 3);
-    let s1 = descend(s2, n, 1, 1);
-    if s1.cur < s1.target {
-        Half::At(s1.result - 2)
+    let s = whole
+        .descend(l.d, 16, 255)
+        .descend(l.c, 8, 15)
+        .descend(l.b, 4, 7)
+        .descend(l.a, 2, 3)
+        .descend(n, 1, 1);
+    if s.cur < s.target {
+        Some(s.result - 2)
     } else {
-        Half::At(s1.result - 1)
+        Some(s.result - 1)
     }
 }

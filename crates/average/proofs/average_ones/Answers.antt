@@ -9,12 +9,12 @@ use lib.Bits.{bit_and}
 use lib.Count.{ones, ones-le}
 use lib.Dec.{T, ltb, leb, lit<, ltb→lt, leb→le}
 use lib.Pow.{shr_lt}
-use Rattle.average.specs.Search.{tally, bits_above, InRange, HalfStep, Tallied}
-use Rattle.average.specs.declared.Tallies.{Tallies}
+use Rattle.average.specs.Search.{tally, bits_above, InRange, HalfStep}
 use Rattle.average.specs.declared.Search.{Search}
 use Rattle.average.proofs.Average.{found, none_found, above_none, above_all}
 use Rattle.average.proofs.Tally.{lower, twice, by_one_mask, tally-bits, tally_whole, mask_widens, field_lt}
 use Rattle.average.proofs.average_ones.Goals as goal
+use Rattle.average.proofs.average_ones.Goals.{Else-count-le1, After-descend, After-descend-2, After-descend-3, After-descend-4, After-descend-s}
 
 abbrev counted : ℕ → ℕ
 counted e = bit_and (e + e / 4294967296) 0xffff_ffff
@@ -76,88 +76,67 @@ returns-then-count-le1 c =
     let word : n < 2 ^ 64 = c.ranges.n.fits in
     none_found n word (omega (arith, count_is n e.result.e word e.ensures.e_is, c.if-count-le1.true))
 
--- what a step down tells
-abbrev Down : Search → ℕ → ℕ → ℕ → Search → Type 0
-Down s child k mask r = (n t : ℕ) → HalfStep n t s child k mask → InRange n t k r
+-- the bit that is looked for, counted from the top
+abbrev half : ℕ → ℕ
+half n = ones n / 2
 
--- what each step asks, where the counts are told and the steps before it
-module _ (n : ℕ) (l : Tallies) (word : n < 2 ^ 64) (told : Tallied n l) (some : 1 < counted l.e) where
-  ask16 : HalfStep n (ones n / 2) (whole l.e) l.d 16 255
-  ask16 = step n (ones n / 2) 16 4 8 (start n l.e word told.e_is some) told.d_is tt refl refl tt tt
+-- what each step asks, by the step before it
+ask16 : (c : Else-count-le1) → let l = c.count_fields-l.result in HalfStep c.args.n (half c.args.n) (whole l.e) l.d 16 255
+ask16 c =
+    let l = c.count_fields-l in
+    step _ _ 16 4 8 (start c.args.n l.result.e c.ranges.n.fits l.ensures.e_is c.if-count-le1.false) l.ensures.d_is tt refl refl tt tt
 
-  ask8 : {s16 : Search} → Down (whole l.e) l.d 16 255 s16 → HalfStep n (ones n / 2) s16 l.c 8 15
-  ask8 d16 = step _ _ 8 8 4 (d16 _ _ ask16) told.c_is tt refl refl tt tt
+ask8 : (c : After-descend) → HalfStep c.args.n (half c.args.n) c.descend.result c.count_fields-l.result.c 8 15
+ask8 c = step _ _ 8 8 4 (c.descend.ensures _ _ (ask16 c.before)) c.count_fields-l.ensures.c_is tt refl refl tt tt
 
-  ask4 : {s16 s8 : Search} → Down (whole l.e) l.d 16 255 s16 → Down s16 l.c 8 15 s8 → HalfStep n (ones n / 2) s8 l.b 4 7
-  ask4 d16 d8 = step _ _ 4 16 3 (d8 _ _ (ask8 d16)) told.b_is tt refl refl tt tt
+ask4 : (c : After-descend-2) → HalfStep c.args.n (half c.args.n) c.descend-2.result c.count_fields-l.result.b 4 7
+ask4 c = step _ _ 4 16 3 (c.descend-2.ensures _ _ (ask8 c.before)) c.count_fields-l.ensures.b_is tt refl refl tt tt
 
-  ask2 : {s16 s8 s4 : Search} → Down (whole l.e) l.d 16 255 s16 → Down s16 l.c 8 15 s8 → Down s8 l.b 4 7 s4 → HalfStep n (ones n / 2) s4 l.a 2 3
-  ask2 d16 d8 d4 = step _ _ 2 32 2 (d4 _ _ (ask4 d16 d8)) told.a_is tt refl refl tt tt
+ask2 : (c : After-descend-3) → HalfStep c.args.n (half c.args.n) c.descend-3.result c.count_fields-l.result.a 2 3
+ask2 c = step _ _ 2 32 2 (c.descend-3.ensures _ _ (ask4 c.before)) c.count_fields-l.ensures.a_is tt refl refl tt tt
 
-  ask1 : {s16 s8 s4 s2 : Search} → Down (whole l.e) l.d 16 255 s16 → Down s16 l.c 8 15 s8 → Down s8 l.b 4 7 s4 → Down s4 l.a 2 3 s2
-      → HalfStep n (ones n / 2) s2 n 1 1
-  ask1 d16 d8 d4 d2 = step _ _ 1 64 1 (d2 _ _ (ask2 d16 d8 d4)) (sym (tally-bits 64 n word)) tt refl refl tt tt
+ask1 : (c : After-descend-4) → HalfStep c.args.n (half c.args.n) c.descend-4.result c.args.n 1 1
+ask1 c = step _ _ 1 64 1 (c.descend-4.ensures _ _ (ask2 c.before)) (sym (tally-bits 64 c.args.n c.ranges.n.fits)) tt refl refl tt tt
 
-  -- where the search ends: two bits are left
-  last : {s16 s8 s4 s2 s1 : Search} → Down (whole l.e) l.d 16 255 s16 → Down s16 l.c 8 15 s8 → Down s8 l.b 4 7 s4 → Down s4 l.a 2 3 s2
-      → Down s2 n 1 1 s1 → InRange n (ones n / 2) 1 s1
-  last d16 d8 d4 d2 d1 = d1 _ _ (ask1 d16 d8 d4 d2)
+-- where the search ends: two bits are left
+last : (c : After-descend-s) → InRange c.args.n (half c.args.n) 1 c.descend-s.result
+last c = c.descend-s.ensures _ _ (ask1 c.before)
 
-pub descend-s16-requires : goal.descend-s16-requires
-descend-s16-requires c = (_, _, ask16 c.args.n c.count_fields-l.result c.ranges.n.fits c.count_fields-l.ensures c.if-count-le1.false)
+pub descend-requires : goal.descend-requires
+descend-requires c = (_, _, ask16 c)
 
-pub descend-s8-requires : goal.descend-s8-requires
-descend-s8-requires c =
-    (_, _, ask8 c.args.n c.count_fields-l.result c.ranges.n.fits c.count_fields-l.ensures c.if-count-le1.false c.descend-s16.ensures)
+pub descend-requires-2 : goal.descend-requires-2
+descend-requires-2 c = (_, _, ask8 c)
 
-pub descend-s4-requires : goal.descend-s4-requires
-descend-s4-requires c =
-    (_, _, ask4 c.args.n c.count_fields-l.result c.ranges.n.fits c.count_fields-l.ensures c.if-count-le1.false c.descend-s16.ensures c.descend-s8.ensures)
+pub descend-requires-3 : goal.descend-requires-3
+descend-requires-3 c = (_, _, ask4 c)
 
-pub descend-s2-requires : goal.descend-s2-requires
-descend-s2-requires c = (
-  _,
-  _,
-  ask2 c.args.n c.count_fields-l.result c.ranges.n.fits c.count_fields-l.ensures c.if-count-le1.false c.descend-s16.ensures c.descend-s8.ensures
-      c.descend-s4.ensures,
-)
+pub descend-requires-4 : goal.descend-requires-4
+descend-requires-4 c = (_, _, ask2 c)
 
-pub descend-s1-requires : goal.descend-s1-requires
-descend-s1-requires c = (
-  _,
-  _,
-  ask1 c.args.n c.count_fields-l.result c.ranges.n.fits c.count_fields-l.ensures c.if-count-le1.false c.descend-s16.ensures c.descend-s8.ensures
-      c.descend-s4.ensures c.descend-s2.ensures,
-)
+pub descend-s-requires : goal.descend-s-requires
+descend-s-requires c = (_, _, ask1 c)
 
 pub overflow_sub-result : goal.overflow_sub-result
-overflow_sub-result c =
-    let a = last c.args.n c.count_fields-l.result c.ranges.n.fits c.count_fields-l.ensures c.if-count-le1.false c.descend-s16.ensures c.descend-s8.ensures
-    c.descend-s4.ensures c.descend-s2.ensures c.descend-s1.ensures in
-    omega (arith, a.aligned)
+overflow_sub-result c = omega (arith, (last (goal.at.overflow_sub-result c).After-descend-s).aligned)
 
-pub overflow_sub-result-else-s1 : goal.overflow_sub-result-else-s1
-overflow_sub-result-else-s1 c =
-    let a = last c.args.n c.count_fields-l.result c.ranges.n.fits c.count_fields-l.ensures c.if-count-le1.false c.descend-s16.ensures c.descend-s8.ensures
-    c.descend-s4.ensures c.descend-s2.ensures c.descend-s1.ensures in
-    omega (arith, a.aligned)
+pub overflow_sub-result-else-s : goal.overflow_sub-result-else-s
+overflow_sub-result-else-s c = omega (arith, (last (goal.at.overflow_sub-result-else-s c).After-descend-s).aligned)
 
 -- a place of which the bits above are too few and those from it on enough is the answer
-pub returns-then-s1 : goal.returns-then-s1
-returns-then-s1 c =
-    let a = last c.args.n c.count_fields-l.result c.ranges.n.fits c.count_fields-l.ensures c.if-count-le1.false c.descend-s16.ensures c.descend-s8.ensures
-    c.descend-s4.ensures c.descend-s2.ensures c.descend-s1.ensures in
+pub returns-then-s : goal.returns-then-s
+returns-then-s c =
+    let a = last (goal.at.returns-then-s c).After-descend-s in
     let n : ℕ = c.args.n in
-    let r : ℕ = c.descend-s1.result.result in
+    let r : ℕ = c.descend-s.result.result in
     let e : suc (r - 2) ≡ r - 1 = omega (arith, a.aligned) in
-    found n c.ranges.n.fits (r - 2) (omega (arith, a.aligned, a.inside)) (omega (arith, ap (bits_above n) e, a.cur_is, a.target_is, c.if-s1.true)) a.reach
+    found n c.ranges.n.fits (r - 2) (omega (arith, a.aligned, a.inside)) (omega (arith, ap (bits_above n) e, a.cur_is, a.target_is, c.if-s.true)) a.reach
 
-pub returns-else-s1 : goal.returns-else-s1
-returns-else-s1 c =
-    let a = last c.args.n c.count_fields-l.result c.ranges.n.fits c.count_fields-l.ensures c.if-count-le1.false c.descend-s16.ensures c.descend-s8.ensures
-    c.descend-s4.ensures c.descend-s2.ensures c.descend-s1.ensures in
+pub returns-else-s : goal.returns-else-s
+returns-else-s c =
+    let a = last (goal.at.returns-else-s c).After-descend-s in
     let n : ℕ = c.args.n in
-    let r : ℕ = c.descend-s1.result.result in
+    let r : ℕ = c.descend-s.result.result in
     let e : suc (r - 1) ≡ r = omega (arith, a.aligned) in
     found n c.ranges.n.fits (r - 1) (omega (arith, a.aligned, a.inside)) (omega (arith, ap (bits_above n) e, a.target_is, a.target_pos))
-    (omega (arith, a.cur_is, a.target_is, c.if-s1.false))
+    (omega (arith, a.cur_is, a.target_is, c.if-s.false))
