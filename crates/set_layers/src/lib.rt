@@ -3,12 +3,12 @@
 
 ghost use Rattle.std.specs.Prelude.{[], ◌∷◌, ◌≡◌, ◌≤◌, ◌<◌};
 ghost use Rattle.util.specs.Outcome.{Settled};
-ghost use Rattle.store.specs.Answer.{read_paper};
+ghost use Rattle.store.specs.Answer.{number_paper};
 ghost use Rattle.store.specs.Layout.{top, StoreOf};
 ghost use Rattle.store.specs.Word.{anc};
 ghost use Rattle.set_layers.specs.Calls.{word_of, OwnPart};
 
-use store::Read;
+use store::Refusal;
 
 // The bits of a word.
 pub const BITS_PER_USIZE: usize = 64;
@@ -44,29 +44,25 @@ fn handed(store: &[u64], k: usize) -> &[u64]
     requires { k < 3 }
     ensures { OwnPart store.entry result k }
 {
-    let n = store::capacity(store);
-    if n == 0 {
-        return &store[..0];
+    match store::capacity(store) {
+        Ok(n) => part(store, n, k),
+        Err(_) => &store[..0],
     }
-    part(store, n, k)
 }
 
 // The word at an index of a layer; 0 past the layer's end. The top layer has one word, whatever the index.
-pub fn get_from_layer(store: &[u64], layer: usize, idx: usize) -> Read
-    ensures { Settled read_paper (word_of store.now layer idx) result tt }
+pub fn get_from_layer(store: &[u64], layer: usize, idx: usize) -> Result<u64, Refusal>
+    ensures { Settled number_paper (word_of store.now layer idx) result tt }
 {
-    let n = store::capacity(store);
-    if n == 0 {
-        return Read::Refused(2);
-    }
+    let n = store::capacity(store)?;
     let top = store::top(n);
     if layer > top {
-        return Read::Refused(4);
+        return Err(Refusal::Layer);
     }
     if layer == top {
-        return Read::Word(store::top_word(store));
+        return Ok(store::top_word(store));
     }
-    Read::Word(store::get(part(store, n, layer), idx))
+    Ok(store::get(part(store, n, layer), idx))
 }
 
 // The bottom layer: each bit is an id.
