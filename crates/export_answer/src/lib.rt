@@ -1,11 +1,11 @@
 // What a caller in C or Rust is answered: structs of two numbers, made of the answers of the calls.
 #![tactic(auto)]
 
-ghost use Rattle.std.specs.Prelude.{cond, [], ◌∷◌, ◌≡◌};
-ghost use Rattle.store.specs.Answer.{asked_paper, did_paper, found_paper, read_paper};
+ghost use Rattle.std.specs.Prelude.{cond, ◌≡◌, ℕ};
+ghost use Rattle.store.specs.Answer.{on_paper};
 ghost use Rattle.export_answer.specs.Abi.{answer_of};
 
-use store::{Asked, Did, Found, Read};
+use store::Refusal;
 
 // The refusal's number, 0 for none, and the value, 0 where there is none.
 #[repr(C)]
@@ -31,63 +31,74 @@ pub struct Bit {
     pub bit: u64,
 }
 
-fn refused(number: u32) -> Answer
-    ensures { result ≡ answer_of (number ∷ []) }
-{
-    Answer {
-        refusal: number as u64,
-        value: 0,
+// What a call answers where it does not refuse, told as a number.
+pub trait Value {
+    ghost number: { Self → ℕ };
+
+    // The number that stands second in an answer.
+    fn number(self) -> u64
+        ensures { result ≡ number self };
+}
+
+// Yes is 1, no is 0.
+impl Value for bool {
+    ghost number = { λ b. cond b 1 0 };
+
+    fn number(self) -> u64 {
+        u64::from(self)
     }
 }
 
-fn value(v: u64) -> Answer
-    ensures { result ≡ answer_of (0 ∷ v ∷ []) }
-{
-    Answer {
-        refusal: 0,
-        value: v,
+// Done is 0.
+impl Value for () {
+    ghost number = { λ _. 0 };
+
+    fn number(self) -> u64 {
+        0
     }
 }
 
-// Yes as 1, no as 0.
-fn yes(b: bool) -> u64
-    ensures { result ≡ cond b 1 0 }
-{
-    if b { 1 } else { 0 }
-}
+// An id.
+impl Value for u32 {
+    ghost number = { λ id. id };
 
-pub fn asked(r: Asked) -> Answer
-    ensures { result ≡ answer_of (asked_paper.numbers r) }
-{
-    match r {
-        Asked::Is(b) => value(yes(b)),
-        Asked::Refused(number) => refused(number),
+    fn number(self) -> u64 {
+        self.into()
     }
 }
 
-pub fn did(r: Did) -> Answer
-    ensures { result ≡ answer_of (did_paper.numbers r) }
-{
-    match r {
-        Did::Done => value(0),
-        Did::Refused(number) => refused(number),
+// A word.
+impl Value for u64 {
+    ghost number = { λ w. w };
+
+    fn number(self) -> u64 {
+        self
     }
 }
 
-pub fn found(r: Found) -> Answer
-    ensures { result ≡ answer_of (found_paper.numbers r) }
-{
-    match r {
-        Found::At(id) => value(id as u64),
-        Found::Refused(number) => refused(number),
+// A length or a capacity.
+impl Value for usize {
+    ghost number = { λ n. n };
+
+    fn number(self) -> u64 {
+        self as u64
     }
 }
 
-pub fn read(r: Read) -> Answer
-    ensures { result ≡ answer_of (read_paper.numbers r) }
-{
-    match r {
-        Read::Word(w) => value(w),
-        Read::Refused(number) => refused(number),
+impl<V: Value> From<Result<V, Refusal>> for Answer {
+    ghost from_gives = { λ r a. a ≡ answer_of (on_paper V.number r) };
+
+    // The answer of a call that may refuse.
+    fn from(r: Result<V, Refusal>) -> Answer {
+        match r {
+            Ok(v) => Answer {
+                refusal: 0,
+                value: v.number(),
+            },
+            Err(why) => Answer {
+                refusal: u64::from(u32::from(why)),
+                value: 0,
+            },
+        }
     }
 }

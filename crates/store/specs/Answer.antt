@@ -67,7 +67,7 @@ refused n = Err (numbered n)
 
 -- ---- a value or a refusal, on paper
 
-abbrev on_paper : {A : Type 0} → (A → ℕ) → Result A Refusal → List ℕ
+abbrev pub on_paper : {A : Type 0} → (A → ℕ) → Result A Refusal → List ℕ
 on_paper to (Ok a) = 0 ∷ to a ∷ []
 on_paper to (Err e) = number e ∷ []
 
