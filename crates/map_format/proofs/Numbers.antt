@@ -1,36 +1,22 @@
--- Little-endian numbers: to bytes and back, at a place, and written over a list.
-use mathlib.Core.List.{List, [], ◌∷◌, ◌++◌}
-use mathlib.Core.Path.{◌≡◌, refl, sym, ap, ap₂, ◌∙◌}
-use Prim.Native.Nat.{ℕ, zero, suc, ◌+◌, ◌*◌, ◌/◌, ◌%◌, ◌^◌, ◌≤◌, ◌<◌}
+-- Little-endian numbers: to bytes and back, as std has them, at a place, and written over a list.
+use Rattle.std.proofs.Common.{◌≡◌, ℕ, zero, suc, ◌+◌, ◌*◌, ◌/◌, ◌%◌, ◌^◌, ◌≤◌, ◌<◌, List, [], ◌∷◌, ◌++◌, length, get_or, set, take, drop, sym, refl, ap, ap₂, ◌∙◌, arith, w32, w64, pow-add, length-drop, length-take-le, drop_at, take_at, get_or-take, get_or-drop}
+use Rattle.std.proofs.Math.ListN.{get_or-eq_default}
+use Rattle.std.proofs.Math.Seq.{sets}
+use Rattle.std.specs.Int.{to_le_bytes, from_le_bytes}
+use Rattle.std.proofs.lemmas.Nat.{le_bytes_4, le_bytes_8}
 use native.Mathlib.Decide.{dec_lt}
-use native.Mathlib.Omega.{arith}
-use lib.ListN.{length, get_or, set, take, drop, length-drop, get_or-eq_default}
-use lib.Pow.{pow-add, pow_mono}
-use lib.Seq.{sets, drop-cons, drop_at, take_at, get_or-take, get_or-drop, length-take-le}
+use native.Mathlib.Nat.{div-div-eq-div-mul}
 use Rattle.map_format.specs.Bytes.{le, num, num_at, Bytes}
-
--- ---- a byte more
-
-pow_byte : (m : ℕ) → 2 ^ (8 * suc m) ≡ 2 ^ (8 * m) * 256
-pow_byte m = let e : 8 * suc m ≡ 8 * m + 8 = omega arith in ap (λ (k : ℕ). 2 ^ k) e ∙ pow-add 2 (8 * m) 8
-
-pub byte_more : (m x b : ℕ) → x < 2 ^ (8 * m) → b < 256 → x * 256 + b < 2 ^ (8 * suc m)
-byte_more m x b h g = omega (arith, pow_byte m)
-
-pub pow_at_most : (m : ℕ) → m ≤ 7 → 2 ^ (8 * m) ≤ 2 ^ 56
-pow_at_most m h = let e : 8 * m ≤ 56 = omega arith in pow_mono e
 
 pub length-le : (n x : ℕ) → length (le n x) ≡ n
 unfolding le
 length-le zero x = refl
 length-le (suc n) x = ap suc (length-le n (x / 256))
 
--- one byte more in front
-pub num_at_suc : (s : List ℕ) (o m : ℕ) → o < length s → num_at o (suc m) s ≡ get_or s o 0 + 256 * num_at (suc o) m s
-unfolding num
-num_at_suc s o m h = ap (λ (l : List ℕ). num (take (suc m) l)) (drop-cons s o 0 h)
-
 -- ---- to bytes and back
+
+pow_byte : (m : ℕ) → 2 ^ (8 * suc m) ≡ 2 ^ (8 * m) * 256
+pow_byte m = let e : 8 * suc m ≡ 8 * m + 8 = omega arith in ap (λ (k : ℕ). 2 ^ k) e ∙ pow-add 2 (8 * m) 8
 
 num-le : (n x : ℕ) → x < 2 ^ (8 * n) → num (le n x) ≡ x
 unfolding le num
@@ -47,6 +33,23 @@ le-num (b ∷ s) h =
     let d : (b + 256 * num s) / 256 ≡ num s = omega arith in
     let m : (b + 256 * num s) % 256 ≡ b = omega arith in
     ap₂ ◌∷◌ m (ap (le (length s)) d ∙ le-num s (λ i. h (suc i)))
+
+-- ---- as std has them
+
+pub bytes_4 : (x : ℕ) → to_le_bytes w32 x ≡ le 4 x
+unfolding le
+bytes_4 x = sym (simp div-div-eq-div-mul)
+
+pub bytes_8 : (x : ℕ) → to_le_bytes w64 x ≡ le 8 x
+unfolding le
+bytes_8 x = sym (simp div-div-eq-div-mul)
+
+module _ (bs : List ℕ) (small : Bytes bs) {n : ℕ} where
+  pub number_4 : length bs ≡ 4 → n < 2 ^ 32 → n ≡ from_le_bytes w32 bs → n ≡ num bs
+  number_4 l h e = sym (num-le 4 n h) ∙ ap num (sym (bytes_4 n) ∙ le_bytes_4 bs n l small e)
+
+  pub number_8 : length bs ≡ 8 → n < 2 ^ 64 → n ≡ from_le_bytes w64 bs → n ≡ num bs
+  number_8 l h e = sym (num-le 8 n h) ∙ ap num (sym (bytes_8 n) ∙ le_bytes_8 bs n l small e)
 
 -- ---- at a place
 
