@@ -10,7 +10,7 @@ ghost use Rattle.store.specs.Layout.{StoreOf};
 ghost use Rattle.summary.specs.Calls.{rebuild_of, sound_of, is_sound_of};
 ghost use Rattle.summary.specs.Steps.{Two, Over, Paired};
 
-use store::{Asked, Did};
+use store::Refusal;
 
 // The part holds a layer of `up` words and then the layer below it: the upper is written anew.
 fn summarize(part: &mut [u64], up: usize)
@@ -64,15 +64,12 @@ fn raise(store: &mut [u64], n: usize)
 }
 
 // Replaces every summary layer by what layer 0 asks.
-pub fn rebuild(store: &mut [u64]) -> Did
+pub fn rebuild(store: &mut [u64]) -> Result<(), Refusal>
     ensures { Settled did_paper (rebuild_of store.old) result store.new }
 {
-    let n = store::capacity(store);
-    if n == 0 {
-        return Did::Refused(2);
-    }
+    let n = store::capacity(store)?;
     raise(store, n);
-    Did::Done
+    Ok(())
 }
 
 // The part holds a layer of `up` words and then the layer below it: whether the upper is as the lower asks.
@@ -111,12 +108,9 @@ fn sound(store: &[u64], n: usize) -> bool
 }
 
 // Whether the store is sound; the check stops at the first fault.
-pub fn is_sound(store: &[u64]) -> Asked
+pub fn is_sound(store: &[u64]) -> Result<bool, Refusal>
     ensures { Settled asked_paper (is_sound_of store.now) result tt }
 {
-    let n = store::capacity(store);
-    if n == 0 {
-        return Asked::Refused(2);
-    }
-    Asked::Is(sound(store, n))
+    let n = store::capacity(store)?;
+    Ok(sound(store, n))
 }
