@@ -1,14 +1,15 @@
 -- Where the layers end as plain divisions, and what a caller learns from the store test.
-use Rattle.std.proofs.Common.{◌≡◌, ℕ, zero, suc, ◌+◌, ◌-◌, ◌/◌, ◌%◌, ◌^◌, ◌<◌, ◌≤◌, Bool, true, false, leb, ◌≢◌, List, [], ◌∷◌, map, length, get_or, take, drop, sym, refl, ap, ◌∙◌, subst, arith, length-drop, take_all, eq-eqb, ne_eqb, leb-true, true≢false, le-leb, ltb}
+use Rattle.std.proofs.Common.{◌≡◌, ℕ, zero, suc, ◌+◌, ◌-◌, ◌/◌, ◌%◌, ◌^◌, ◌<◌, ◌≤◌, Bool, true, false, cond, ◌&&◌, eqb, eqb-true, leb, IsErrAnd, ◌≢◌, List, [], ◌∷◌, map, length, get_or, take, drop, sym, refl, ap, ◌∙◌, subst, arith, length-drop, take_all, eq-eqb, ne_eqb, leb-true, true≢false, le-leb, ltb}
 use Rattle.util.proofs.Same.{both}
 use Rattle.store.specs.Build.{layer0}
 use Rattle.store.specs.Layout.{header, top, max_cap, is_cap, words, room, span, layer_len, layer_end, layer_start, store_len, cap, is_store, StoreOf, folded, end_of, words_for, start_from, id_word_of, top_word}
 use Rattle.std.specs.Prelude.{Result, Ok, Err}
-use Rattle.store.specs.Answer.{tested}
+use Rattle.util.specs.Outcome.{Outcome}
+use Rattle.store.specs.Answer.{tested, tested_pair, refuses, number}
 use Rattle.store.specs.declared.Refusal.{Refusal}
-use Rattle.store.specs.declared.Refusal.TheVariants.{NoStore}
+use Rattle.store.specs.declared.Refusal.TheVariants.{NoStore, Capacities}
 use Rattle.store.specs.Word.{word}
-use Rattle.store.proofs.Geometry.{store_is, room_closed, end_top, end_step, end_past, within}
+use Rattle.store.proofs.Geometry.{is_store_lem, store_is, room_closed, end_top, end_step, end_past, within}
 use Rattle.store.proofs.TopLayer.{top_low, top_high, top_one}
 use Rattle.store.proofs.Words.{word_in}
 
@@ -169,6 +170,66 @@ module _ {r : Result ℕ Refusal} (s : List ℕ) (e : r ≡ tested s) where
 
   pub no_store_is : {x : Refusal} → r ≡ Err x → x ≡ NoStore
   no_store_is {x} h = let t : tested s ≡ Err NoStore = rw (no_store h) in ap err_of (sym h ∙ e ∙ t)
+
+-- a refusal that a call hands on by `?`
+pub passed : {A : Type 0} {r : Result A Refusal} {x : Refusal} → IsErrAnd r (λ y. y ≡ x) → r ≡ Err x
+passed {r = Ok a} h = absurd h
+passed {r = Err y} h = ap Err h
+
+-- the test of two stores of one capacity, as the code makes it
+module _ {r : Result ℕ Refusal} (s t : List ℕ) (e : r ≡ tested s) where
+  pub pair_first : {x : Refusal} → r ≡ Err x → Err x ≡ tested_pair s t
+  unfolding tested_pair
+  pair_first h = let f = no_store s e h in sym (rw (f, no_store_is s e h))
+
+  module _ {q : Result ℕ Refusal} (g : q ≡ tested t) {n : ℕ} (h : r ≡ Ok n) where
+    pub pair_second : {x : Refusal} → q ≡ Err x → Err x ≡ tested_pair s t
+    unfolding tested_pair
+    pair_second k = sym (rw (is_store_lem (some_store s e h), no_store t g k, no_store_is t g k))
+
+    module _ {m : ℕ} (k : q ≡ Ok m) where
+      pub pair_apart : n ≢ m → Err Capacities ≡ tested_pair s t
+      unfolding tested_pair
+      pair_apart d =
+          let y = some_store s e h in
+          let z = some_store t g k in
+          sym (rw (is_store_lem y, is_store_lem z, y.names, z.names, ne_eqb n m d))
+
+      pub pair_same : n ≡ m → Ok n ≡ tested_pair s t
+      unfolding tested_pair
+      pair_same d =
+          let y = some_store s e h in
+          let z = some_store t g k in
+          sym (rw (is_store_lem y, is_store_lem z, y.names, z.names, eq-eqb n m d))
+
+-- what it says: both are stores of that capacity, or what a call answers that refuses 2 and then 5
+module _ {r : Result ℕ Refusal} (s t : List ℕ) (e : r ≡ tested_pair s t) where
+  pub both_stores : {n : ℕ} → r ≡ Ok n → StoreOf n s × StoreOf n t
+  unfolding tested_pair
+  both_stores {n} h = go (is_store s) refl (is_store t) refl (eqb (cap s) (cap t)) refl
+    where
+      go : (a : Bool) → is_store s ≡ a → (b : Bool) → is_store t ≡ b → (c : Bool) → eqb (cap s) (cap t) ≡ c → StoreOf n s × StoreOf n t
+      go true p true q true d =
+          let u : tested_pair s t ≡ Ok (cap s) = rw (p, q, d) in
+          let v : cap s ≡ n = ap ok_of (sym (e ∙ u) ∙ h) in
+          (subst (λ (x : ℕ). StoreOf x s) v (store_is p), subst (λ (x : ℕ). StoreOf x t) (sym (eqb-true (cap s) (cap t) d) ∙ v) (store_is q))
+      go true p true q false d = let u : tested_pair s t ≡ Err Capacities = rw (p, q, d) in absurd (true≢false (ap is_ok_of (sym h ∙ e ∙ u)))
+      go true p false q c d = let u : tested_pair s t ≡ Err NoStore = rw (p, q) in absurd (true≢false (ap is_ok_of (sym h ∙ e ∙ u)))
+      go false p b q c d = let u : tested_pair s t ≡ Err NoStore = rw p in absurd (true≢false (ap is_ok_of (sym h ∙ e ∙ u)))
+
+  pub pair_refused : {x : Refusal} → r ≡ Err x → {X : Type 0} (o : Outcome X) (m : X)
+      → cond (is_store s && is_store t) (cond (eqb (cap s) (cap t)) o (refuses 5 m)) (refuses 2 m) ≡ refuses (number x) m
+  unfolding tested_pair
+  pair_refused {x} h o m = go (is_store s && is_store t) refl (eqb (cap s) (cap t)) refl
+    where
+      go : (a : Bool) → (is_store s && is_store t) ≡ a → (c : Bool) → eqb (cap s) (cap t) ≡ c → cond a (cond c o (refuses 5 m)) (refuses 2 m) ≡ refuses (number x) m
+      go true p true d = let u : tested_pair s t ≡ Ok (cap s) = rw (p, d) in absurd (true≢false (sym (ap is_ok_of (sym h ∙ e ∙ u))))
+      go true p false d =
+          let u : tested_pair s t ≡ Err Capacities = rw (p, d) in
+          ap (λ (y : Refusal). refuses (number y) m) (ap err_of (sym (e ∙ u) ∙ h))
+      go false p c d =
+          let u : tested_pair s t ≡ Err NoStore = rw p in
+          ap (λ (y : Refusal). refuses (number y) m) (ap err_of (sym (e ∙ u) ∙ h))
 
 -- ---- layer k as a part of its store: where it starts and ends, and that it lies inside
 

@@ -1,6 +1,6 @@
 -- The answers that calls share, on paper. Document 01: "Each returns its number and zeros elsewhere": an answer's first number is the
 -- refusal's, 0 for none, and its value stands second; a refusal is its number alone, and reads 0 elsewhere.
-use Rattle.std.specs.Prelude.{◌≡◌, ℕ, Bool, true, false, cond, List, [], ◌∷◌, ◌==◌, slice_index, Result, Ok, Err, refl}
+use Rattle.std.specs.Prelude.{◌≡◌, ℕ, Bool, true, false, cond, ◌&&◌, List, [], ◌∷◌, ◌==◌, slice_index, Result, Ok, Err, refl}
 use Rattle.std.proofs.Common.{ap}
 use Rattle.util.specs.Outcome.{Outcome, Paper}
 use Rattle.store.specs.Layout.{cap, is_store}
@@ -104,6 +104,10 @@ number_paper = record {
 -- what the store test answers
 abbrev pub tested : List ℕ → Result ℕ Refusal
 tested s = cond (is_store s) (Ok (cap s)) (Err NoStore)
+
+-- what the test of two stores of one capacity answers: "capacities differ" is said of two stores
+unfoldable pub tested_pair : List ℕ → List ℕ → Result ℕ Refusal
+tested_pair s t = cond (is_store s && is_store t) (cond (cap s == cap t) (Ok (cap s)) (Err Capacities)) (Err NoStore)
 
 -- what a judge answers, by the number of what stands in the way, 0 being nothing
 abbrev pub judged : ℕ → Result (Unit {0}) Refusal

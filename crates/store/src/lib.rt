@@ -4,7 +4,7 @@
 
 ghost use Rattle.std.specs.Prelude.{◌≡◌, ◌≤◌, slice_index, slice_set};
 ghost use Rattle.store.specs.Layout.{top, max_cap, is_cap, store_len, words_for, cap, end_of, start_from, id_word_of, top_word};
-ghost use Rattle.store.specs.Answer.{number, tested};
+ghost use Rattle.store.specs.Answer.{number, tested, tested_pair};
 
 // Why a call refuses, by the numbers of the tables in the documents 01 and 02. What stays as it was is said by each call.
 #[derive(Clone, Copy, PartialEq, Eq)]
@@ -152,6 +152,18 @@ pub fn capacity(store: &[u64]) -> Result<usize, Refusal>
     } else {
         Err(Refusal::NoStore)
     }
+}
+
+// The test of two stores of one capacity, which is answered: that both are stores comes first.
+pub fn same_capacity(a: &[u64], b: &[u64]) -> Result<usize, Refusal>
+    ensures { result ≡ tested_pair a.now b.now }
+{
+    let n = capacity(a)?;
+    let m = capacity(b)?;
+    if n != m {
+        return Err(Refusal::Capacities);
+    }
+    Ok(n)
 }
 
 // The word of the top layer.
