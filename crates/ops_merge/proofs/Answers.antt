@@ -1,19 +1,20 @@
 -- What each way out of the three calls answers and leaves is what was promised there.
-use mathlib.Core.Bool.{true, false}
+use mathlib.Core.Bool.{true}
 use mathlib.Core.List.{List, zip_with}
-use mathlib.Core.Logic.{◌≢◌}
 use mathlib.Core.Path.{◌≡◌, refl, sym, ap, ◌∙◌, subst}
 use Prim.Native.Nat.{ℕ, ◌-◌, ◌*◌}
 use native.Mathlib.Omega.{arith}
-use borrow.Author.Tests.{eq-eqb, ne_eqb}
+use borrow.Author.Tests.{eq-eqb}
 use lib.Pow.{pow_pos}
-use Rattle.util.specs.Outcome.{Settled, settled}
+use Rattle.util.specs.Outcome.{settled}
 use Rattle.util.proofs.Bits.{bit_of_zero}
-use Rattle.store.specs.Answer.{did_paper, does}
+use Rattle.store.specs.Answer.{does, tested_pair}
 use Rattle.store.specs.Build.{build, layer0}
-use Rattle.store.specs.Layout.{top, cap, is_store, StoreOf}
+use Rattle.store.specs.Layout.{top, cap, StoreOf}
 use Rattle.store.specs.Word.{Sound, Words64}
-use Rattle.store.specs.declared.Did.TheVariants.{Done, Refused}
+use Rattle.std.specs.Prelude.{Result, Ok, Err}
+use Rattle.store.specs.declared.Refusal.{Refusal}
+use Rattle.store.proofs.Ends.{pair_refused}
 use Rattle.store.proofs.Geometry.{is_store_lem, store_kept}
 use Rattle.ops_word.specs.Op.{op_word}
 use Rattle.ops_merge.specs.Calls.{merged_of, mergeable, assign_of, Assigned}
@@ -21,36 +22,21 @@ use Rattle.ops_merge.specs.Tree.{MergeAt, Level}
 use Rattle.ops_merge.proofs.Whole.{top-told, done_merged}
 
 -- a refusal changes nothing
-module _ {op : ℕ} (s t : List ℕ) where
-  refused : {n : ℕ} → Settled did_paper (assign_of op s t) (Refused n) s → Assigned op s t (Refused n) s
-  refused v = record { answer = v.answer; long = refl; names = refl; whole = λ z. v }
-
-  pub first_refused : is_store s ≡ false → Assigned op s t (Refused 2) s
-  unfolding assign_of
-  first_refused h = refused (settled (rw h))
-
-  pub second_refused : {N : ℕ} → StoreOf N s → is_store t ≡ false → Assigned op s t (Refused 2) s
-  unfolding assign_of
-  second_refused z h = refused (settled (rw (is_store_lem z, h)))
-
-  pub caps_refused : {N M : ℕ} → StoreOf N s → StoreOf M t → N ≢ M → Assigned op s t (Refused 5) s
-  unfolding assign_of
-  caps_refused z y n =
-      refused (settled (rw (is_store_lem z, is_store_lem y, ne_eqb (cap s) (cap t) (λ e. n (sym z.names ∙ e ∙ y.names)))))
+pub refused : (op : ℕ) (s t : List ℕ) {r : Result ℕ Refusal} {x : Refusal} → r ≡ tested_pair s t → r ≡ Err x → Assigned op s t (Err x) s
+unfolding assign_of
+refused op s t e h =
+    let v = settled (pair_refused s t e h (does (merged_of op s t)) s) in
+    record { answer = v.answer; long = refl; names = refl; whole = λ z. v }
 
 -- what the top word is asked of
-pub ask_top : {N M k : ℕ} {s t : List ℕ} → StoreOf N s → StoreOf M t → N ≡ M → k ≡ top N → MergeAt s t N k 0
-ask_top {N} {M} {k} {s} {t} z y e h =
-    record { first = z; second = subst (λ (n : ℕ). StoreOf n t) (sym e) y; known = omega arith; small = pow_pos (6 * (top N - k)) }
+pub ask_top : {N k : ℕ} {s t : List ℕ} → StoreOf N s → StoreOf N t → k ≡ top N → MergeAt s t N k 0
+ask_top {N} {k} z y h = record { first = z; second = y; known = omega arith; small = pow_pos (6 * (top N - k)) }
 
 -- and what it gives
-module _ {op N M k : ℕ} {s t : List ℕ} {u : List ℕ} {r : ℕ} (z : StoreOf N s) (y : StoreOf M t) (e : N ≡ M) (h : k ≡ top N) (ws : Words64 s) (wt : Words64 t)
+module _ {op N k : ℕ} {s t : List ℕ} {u : List ℕ} {r : ℕ} (z : StoreOf N s) (y : StoreOf N t) (h : k ≡ top N) (ws : Words64 s) (wt : Words64 t)
     (wu : Words64 u) (v : Level N op s t k 0 0 1 u r 0) where
-  second : StoreOf N t
-  second = subst (λ (n : ℕ). StoreOf n t) (sym e) y
-
   caps : cap s ≡ cap t
-  caps = z.names ∙ e ∙ sym y.names
+  caps = z.names ∙ sym y.names
 
   there : StoreOf N u
   there = store_kept z v.long (v.head 0 (omega arith))
@@ -65,9 +51,9 @@ module _ {op N M k : ℕ} {s t : List ℕ} {u : List ℕ} {r : ℕ} (z : StoreOf
       let x = subst (λ (i : ℕ). Level N op s t i 0 0 1 u r 0) h v in
       let d = ((x.along (top-told N op s t z.some z.most zs.layers zt.layers)).done 0 refl (bit_of_zero 0)).is in
       subst (λ (n : ℕ). u ≡ build n (zip_with (op_word op) (layer0 n s) (layer0 n t))) (sym z.names)
-      (done_merged op z second ws wt zs zt u there wu d)
+      (done_merged op z y ws wt zs zt u there wu d)
 
-  pub merge_done : Assigned op s t Done u
+  pub merge_done : Assigned op s t (Ok tt) u
   unfolding assign_of
   merge_done =
       let f = eq-eqb (cap s) (cap t) caps in
@@ -79,5 +65,5 @@ module _ {op N M k : ℕ} {s t : List ℕ} {u : List ℕ} {r : ℕ} (z : StoreOf
             let b = h pair in
             settled (rw (is_store_lem z, is_store_lem y, f)
             (ap (λ (l : List ℕ). does l)
-            (sym (merged (subst (λ (n : ℕ). Sound n s) z.names b.0) (subst (λ (n : ℕ). Sound n t) (y.names ∙ sym e) b.1)))));
+            (sym (merged (subst (λ (n : ℕ). Sound n s) z.names b.0) (subst (λ (n : ℕ). Sound n t) y.names b.1)))));
       }

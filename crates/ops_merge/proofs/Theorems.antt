@@ -18,7 +18,8 @@ use Rattle.store.specs.Answer.{did_paper}
 use Rattle.store.specs.Build.{layer0}
 use Rattle.store.specs.Layout.{layer_len, cap, is_store, StoreOf}
 use Rattle.store.specs.Word.{on, word, Member, Sound, Words64, SoundStore}
-use Rattle.store.specs.declared.Did.{Did}
+use Rattle.std.specs.Prelude.{Result}
+use Rattle.store.specs.declared.Refusal.{Refusal}
 use Rattle.store.proofs.Build.{cap-build, on-build, build_fine}
 use Rattle.store.proofs.Geometry.{is_store_lem, store_is}
 use Rattle.store.proofs.Members.{member-on, on-member, own, fine_same}
@@ -159,7 +160,7 @@ module _ (s t : List ℕ) (p : BothStores s t) (ws : Words64 s) (wt : Words64 t)
 -- ---- THE CALLS
 
 -- what it leaves of two sound stores of equal capacity is the merged store
-pub leaves_merged : {op : ℕ} {s t : List ℕ} {r : Did} {u : List ℕ} → Assigned op s t r u → mergeable s t ≡ true → Sound (cap s) s → Sound (cap t) t
+pub leaves_merged : {op : ℕ} {s t : List ℕ} {r : Result (Unit {0}) Refusal} {u : List ℕ} → Assigned op s t r u → mergeable s t ≡ true → Sound (cap s) s → Sound (cap t) t
     → u ≡ merged_of op s t
 unfolding mergeable assign_of
 leaves_merged {op} {s} {t} v h zs zt =
@@ -167,7 +168,7 @@ leaves_merged {op} {s} {t} v h zs zt =
     (v.whole (λ g. (zs, zt))).memory ∙ rw (p.0, p.1)
 
 -- WHAT A CALL LEAVES of two sound stores is a sound store: of equal capacity the merged one, and of another nothing is changed
-pub fine_merged : {N M op : ℕ} {s t : List ℕ} {r : Did} {u : List ℕ} → SoundStore N s → SoundStore M t → Assigned op s t r u → SoundStore N u
+pub fine_merged : {N M op : ℕ} {s t : List ℕ} {r : Result (Unit {0}) Refusal} {u : List ℕ} → SoundStore N s → SoundStore M t → Assigned op s t r u → SoundStore N u
 unfolding mergeable assign_of
 fine_merged {N} {M} {op} {s} {t} {r} {u} f g v = subst (λ (n : ℕ). SoundStore n u) f.is.names (go (eqb (cap s) (cap t)) refl)
   where
@@ -182,12 +183,12 @@ fine_merged {N} {M} {op} {s} {t} {r} {u} f g v = subst (λ (n : ℕ). SoundStore
         let k : (assign_of op s t).lent ≡ s = rw (is_store_lem f.is, is_store_lem g.is, e) in
         subst (SoundStore (cap s)) (sym ((v.whole (λ h. absurd (true≢false (sym h ∙ n)))).memory ∙ k)) (own f)
 
-pub assigned_sound : {N M op : ℕ} {s t : List ℕ} {r : Did} {u : List ℕ} → SoundStore N s → SoundStore M t → Assigned op s t r u → Sound (cap u) u
+pub assigned_sound : {N M op : ℕ} {s t : List ℕ} {r : Result (Unit {0}) Refusal} {u : List ℕ} → SoundStore N s → SoundStore M t → Assigned op s t r u → Sound (cap u) u
 assigned_sound f g v = (own (fine_merged f g v)).sound
 
 -- "Any two outcomes that satisfy it are proved equal": always the answer, length and word 0; all memory but where the call goes through
 -- with an unsound store
-pub assigned_answers : {op : ℕ} {s t : List ℕ} {r r' : Did} {u u' : List ℕ} → Assigned op s t r u → Assigned op s t r' u'
+pub assigned_answers : {op : ℕ} {s t : List ℕ} {r r' : Result (Unit {0}) Refusal} {u u' : List ℕ} → Assigned op s t r u → Assigned op s t r' u'
     → (r ≡ r') × (length u ≡ length u') × (cap u ≡ cap u')
 assigned_answers {r = r} {r' = r'} v w = (
   sym (did_paper.same r) ∙ ap did_paper.answer (v.answer ∙ sym w.answer) ∙ did_paper.same r',
@@ -195,5 +196,5 @@ assigned_answers {r = r} {r' = r'} v w = (
   v.names ∙ sym w.names,
 )
 
-pub assigned_settles : {op : ℕ} {s t : List ℕ} {r r' : Did} {u u' : List ℕ} → Assigned op s t r u → Assigned op s t r' u' → BothSound s t → (r ≡ r') × (u ≡ u')
+pub assigned_settles : {op : ℕ} {s t : List ℕ} {r r' : Result (Unit {0}) Refusal} {u u' : List ℕ} → Assigned op s t r u → Assigned op s t r' u' → BothSound s t → (r ≡ r') × (u ≡ u')
 assigned_settles v w z = settles (v.whole z) (w.whole z)

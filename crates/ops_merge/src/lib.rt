@@ -6,7 +6,7 @@ ghost use Rattle.std.specs.Prelude.{◌≡◌, ◌-◌, ◌<◌, min};
 ghost use Rattle.ops_merge.specs.Calls.{Assigned};
 ghost use Rattle.ops_merge.specs.Tree.{MergeAt, TaskDone, task_of};
 
-use store::Did;
+use store::Refusal;
 
 fn least(x: usize, y: usize) -> usize
     ensures { result ≡ min x y }
@@ -84,20 +84,10 @@ fn below(
 }
 
 // The three calls, told which by a formula's code: the tests, and the top word as the one word under a word above it.
-pub fn assign(store: &mut [u64], other: &[u64], op: u64) -> Did
+pub fn assign(store: &mut [u64], other: &[u64], op: u64) -> Result<(), Refusal>
     ensures { Assigned op store.old other.now result store.new }
 {
-    let n = store::capacity(store);
-    if n == 0 {
-        return Did::Refused(2);
-    }
-    let l = store::capacity(other);
-    if l == 0 {
-        return Did::Refused(2);
-    }
-    if n != l {
-        return Did::Refused(5);
-    }
+    let n = store::same_capacity(store, other)?;
     below(store, other, n, store::top(n), 0, 0, 1, op);
-    Did::Done
+    Ok(())
 }
