@@ -8,14 +8,14 @@ ghost use Rattle.store.specs.Word.{word};
 ghost use Rattle.set_member.specs.Calls.{locate_of, contains_of};
 ghost use Rattle.set_member.specs.Place.{place_paper, Placed};
 
-use store::Asked;
+use store::Refusal;
 
-// Where an id stands: in a store of so many ids, whose layer 0 starts there, with this layer-0 word; past its end; or in no store.
+// Where an id stands in a store: the capacity, where layer 0 starts, and the id's layer-0 word.
 #[derive(Clone, Copy)]
-pub enum Place {
-    In(usize, usize, u64),
-    Past,
-    Nowhere,
+pub struct Place {
+    pub n: usize,
+    pub start: usize,
+    pub word: u64,
 }
 
 // Whether an id has room: ids stop below the capacity.
@@ -35,27 +35,28 @@ fn word0(store: &[u64], n: usize, id: u32) -> u64
 }
 
 // What every call on an id begins with: its tests, and the word that it reads.
-pub fn locate(store: &[u64], id: u32) -> Place
+pub fn locate(store: &[u64], id: u32) -> Result<Place, Refusal>
     ensures { Settled place_paper (locate_of store.now id) result tt }
 {
-    let n = store::capacity(store);
-    if n == 0 {
-        return Place::Nowhere;
-    }
+    let n = store::capacity(store)?;
     if has_room(id, n) {
-        Place::In(n, store::start(store.len(), n, 0), word0(store, n, id))
+        Ok(Place {
+            n,
+            start: store::start(store.len(), n, 0),
+            word: word0(store, n, id),
+        })
     } else {
-        Place::Past
+        Err(Refusal::Id)
     }
 }
 
 // Whether the id is a member: below the capacity, with its layer-0 bit set.
-pub fn contains(store: &[u64], id: u32) -> Asked
+pub fn contains(store: &[u64], id: u32) -> Result<bool, Refusal>
     ensures { Settled asked_paper (contains_of store.now id) result tt }
 {
     match locate(store, id) {
-        Place::In(_, _, w) => Asked::Is(util::is_set(w, id as usize)),
-        Place::Past => Asked::Is(false),
-        Place::Nowhere => Asked::Refused(2),
+        Ok(place) => Ok(util::is_set(place.word, id as usize)),
+        Err(Refusal::Id) => Ok(false),
+        Err(no) => Err(no),
     }
 }
