@@ -4,9 +4,12 @@
 
 ghost use Rattle.std.specs.Prelude.{◌&&◌, [], ◌∷◌, ◌≡◌, suc, ◌+◌, ◌*◌, ◌%◌, ◌<◌, eqb, ltb, get_or, set};
 ghost use Rattle.std.specs.Int.Count.{count_trailing_zeros};
+ghost use Rattle.store.specs.Answer.{judged};
 ghost use Rattle.store.specs.Layout.{top, top_most};
 ghost use Rattle.walk_masks.specs.Masks.{low_from, between, prefix_at, lowest_bit, bare};
 ghost use Rattle.walk_masks.specs.Prefixes.{prefixes_fit, refusal_of};
+
+use store::Refusal;
 
 // The prefix of layer k is below 64 ^ (TOP + 1 - k).
 const BOUND2: u64 = 64 * 64;
@@ -16,19 +19,11 @@ const BOUND1: u64 = 64 * BOUND2;
 const BOUND0: u64 = 64 * BOUND1;
 
 // Whether the lowest layer with a mask is one above layer 0.
+#[tactic(auto, unfolding(crate::specs::Masks::low_from))]
 pub fn wants(masks: [u64; store::LAYERS]) -> bool
     ensures { result ≡ between 0 (low_from masks 0 (suc top_most)) (suc top_most) }
 {
-    if masks[0] != 0 {
-        return false;
-    }
-    if masks[1] != 0 {
-        return true;
-    }
-    if masks[2] != 0 {
-        return true;
-    }
-    masks[store::TOP] != 0
+    masks[0] == 0 && (masks[1] != 0 || masks[2] != 0 || masks[store::TOP] != 0)
 }
 
 // Where the lowest bit of a mask stands behind a prefix.
@@ -84,35 +79,28 @@ pub fn under(prefix: [u32; store::TOP], j: usize, q: usize) -> [u32; store::TOP]
 fn is_prefix(p: u64, bound: u64) -> bool
     ensures { result ≡ (eqb (p % 64) 0 && ltb p bound) }
 {
-    if p % 64 != 0 {
-        return false;
-    }
-    p < bound
+    p % 64 == 0 && p < bound
 }
 
 // Whether three numbers are the prefixes of a cursor, of the layers 0, 1 and 2.
+#[tactic(auto, unfolding(crate::specs::Prefixes::prefixes_fit))]
 pub fn are_prefixes(p0: u64, p1: u64, p2: u64) -> bool
     ensures { result ≡ prefixes_fit top_most (p0 ∷ p1 ∷ p2 ∷ []) top_most }
 {
-    if !is_prefix(p0, BOUND0) {
-        return false;
-    }
-    if !is_prefix(p1, BOUND1) {
-        return false;
-    }
-    is_prefix(p2, BOUND2)
+    is_prefix(p0, BOUND0) && is_prefix(p1, BOUND1) && is_prefix(p2, BOUND2)
 }
 
-// The refusal of a walk on a store of n ids, none being no store, by its cursor's prefixes; or 0.
-pub fn refusal(n: usize, p: [u32; store::TOP]) -> u32
-    ensures { result ≡ refusal_of n (prefixes_fit (top n) p (top n)) }
+// What a walk on a store of n ids, none being no store, is refused for, by its cursor's prefixes.
+#[tactic(auto, using(crate::proofs::Prefixes::none_taken))]
+pub fn check(n: usize, p: [u32; store::TOP]) -> Result<(), Refusal>
+    ensures { result ≡ judged (refusal_of n (prefixes_fit (top n) p (top n))) }
 {
     if n == 0 {
-        return 2;
+        return Err(Refusal::NoStore);
     }
     if are_prefixes(p[0] as u64, p[1] as u64, p[2] as u64) {
-        0
+        Ok(())
     } else {
-        7
+        Err(Refusal::Cursor)
     }
 }
