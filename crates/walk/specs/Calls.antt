@@ -1,9 +1,10 @@
 -- Start and next on one store, for all inputs. Document 01: "Each returns its number and zeros elsewhere and changes nothing lent; a refused
 -- next hands back its cursor as given."
 use Rattle.std.specs.Prelude.{Bool, cond, List, ◌∷◌, ◌++◌, ◌≡◌, refl, ℕ, zero, suc, ◌-◌, ◌%◌, ◌^◌, ◌<◌, length, get_or, take, drop}
-use Rattle.std.proofs.Common.{ap₂}
+use Rattle.std.proofs.Common.{ap, ap₂}
 use Rattle.std.proofs.Math.Seq.{take-append_seam, drop-append_seam}
 use Rattle.util.specs.Outcome.{Outcome, Paper}
+use Rattle.store.specs.Answer.{number, numbered, numbered_number}
 use Rattle.store.specs.Layout.{top, cap, is_store}
 use Rattle.store.specs.Word.{word}
 unfoldable pub use Rattle.walk_masks.specs.Prefixes.{prefixes_fit}
@@ -16,32 +17,32 @@ use Rattle.walk.specs.declared.Step.{Step}
 -- ---- a step on paper: the refusal's number or 0; 1 for a member, 2 for paused, 3 for the end, 0 for a refusal; the id or 0; the reads; how
 -- many masks there are, the masks, the prefixes
 
-abbrev number : Next → ℕ
-number (Member v) = 0
-number Paused = 0
-number End = 0
-number (Refused n) = n
+abbrev refusal_in : Next → ℕ
+refusal_in (Member v) = 0
+refusal_in Paused = 0
+refusal_in End = 0
+refusal_in (Refused e) = number e
 
 abbrev which : Next → ℕ
 which (Member v) = 1
 which Paused = 2
 which End = 3
-which (Refused n) = 0
+which (Refused e) = 0
 
 abbrev id : Next → ℕ
 id (Member v) = v
 id Paused = 0
 id End = 0
-id (Refused n) = 0
+id (Refused e) = 0
 
 abbrev numbers : Step → List ℕ
 numbers a =
     let c = a.cursor in
-    number a.answer ∷ which a.answer ∷ id a.answer ∷ a.reads ∷ length c.masks ∷ (c.masks ++ c.prefix)
+    refusal_in a.answer ∷ which a.answer ∷ id a.answer ∷ a.reads ∷ length c.masks ∷ (c.masks ++ c.prefix)
 
 -- the step read off its numbers
 abbrev answer_of : ℕ → ℕ → ℕ → Next
-answer_of n zero v = Refused n
+answer_of n zero v = Refused (numbered n)
 answer_of n (suc zero) v = Member v
 answer_of n (suc (suc zero)) v = Paused
 answer_of n (suc (suc (suc w))) v = End
@@ -53,11 +54,11 @@ read_back l = record {
   answer = answer_of (get_or l 0 0) (get_or l 1 0) (get_or l 2 0);
 }
 
-abbrev answer_back : (n : Next) → answer_of (number n) (which n) (id n) ≡ n
+abbrev answer_back : (n : Next) → answer_of (refusal_in n) (which n) (id n) ≡ n
 answer_back (Member v) = refl
 answer_back Paused = refl
 answer_back End = refl
-answer_back (Refused n) = refl
+answer_back (Refused e) = ap Refused (numbered_number e)
 
 abbrev step_back : (a : Step) → read_back (numbers a) ≡ a
 step_back a =
@@ -74,8 +75,9 @@ written a = record { numbers = step_paper.numbers a; lent = tt }
 
 -- ---- refusals
 
+-- by its number
 abbrev pub refused : ℕ → Cursor → Step
-refused n c = record { cursor = c; reads = 0; answer = Refused n }
+refused n c = record { cursor = c; reads = 0; answer = Refused (numbered n) }
 
 -- refusal 7 is given where this is false
 abbrev pub fits : ℕ → Cursor → Bool

@@ -1,13 +1,20 @@
 -- What the private steps ask and leave; t is the number of the top layer.
 use Rattle.std.specs.Prelude.{Bool, true, false, cond, List, [], ◌≡◌, ℕ, zero, suc, ◌-◌, ◌%◌, ◌≤◌, get_or}
+use Rattle.store.specs.Layout.{top, cap, is_store}
 unfoldable pub use Rattle.walk_masks.specs.Prefixes.{refusal_of}
-use Rattle.walk.specs.Calls.{Fine}
+use Rattle.walk.specs.Calls.{fits, Fine}
 use Rattle.walk.specs.Walk.{Kind, low_layer, kind, place_at, handed, handled, more, descend, next}
 use Rattle.walk.specs.Walk.Kind.{gives, reads, done}
 use Rattle.walk.specs.declared.Cursor.{Cursor}
 use Rattle.walk.specs.declared.Next.TheVariants.{Member, Paused, End}
 use Rattle.walk.specs.declared.Step.{Step}
 use Rattle.walk.specs.declared.Sunk.{Sunk}
+
+-- what a walk of a store is refused for, by its number, or 0: refusals 2, then 7
+unfoldable pub refusal_on : List ℕ → Cursor → ℕ
+refusal_on s c =
+    let N = cap s in
+    cond (is_store s) (cond (fits (top N) c) 0 7) 2
 
 -- the words of layers that are lent as lists, the lowest first
 abbrev pub parts : List (List ℕ) → ℕ → ℕ → ℕ

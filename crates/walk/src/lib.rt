@@ -3,10 +3,13 @@
 
 ghost use Rattle.std.specs.Prelude.{true, [], ◌∷◌, ◌≡◌, ℕ, suc, ◌+◌, ◌-◌, ◌%◌, ◌<◌, get_or};
 ghost use Rattle.util.specs.Outcome.{Settled};
+ghost use Rattle.store.specs.Answer.{judged};
 ghost use Rattle.store.specs.Layout.{top, top_most};
 ghost use Rattle.walk.specs.Calls.{step_paper, start_of, next_of, fits, Fine};
-ghost use Rattle.walk.specs.Steps.{refusal_of, parts, is_reading, Lowers, Sinks, Finishes};
+ghost use Rattle.walk.specs.Steps.{refusal_of, refusal_on, parts, is_reading, Lowers, Sinks, Finishes};
 ghost use Rattle.walk.specs.Walk.{low_layer, kind, first_bit, place_at, handed, handled, start_at, next};
+
+use store::Refusal;
 
 pub use walk_masks::are_prefixes;
 
@@ -23,7 +26,7 @@ pub enum Next {
     Member(u32),
     Paused,
     End,
-    Refused(u32),
+    Refused(Refusal),
 }
 
 // The changed cursor, the words read by this call, and its answer.
@@ -55,22 +58,21 @@ pub fn above(top: u64) -> Cursor
 
 impl Cursor {
     // Where the lowest bit of layer k's mask stands in its layer; the top layer has no prefix. Layers count modulo their number.
+    #[tactic(auto, unfolding(crate::specs::Walk::place_at))]
     pub fn place(self, k: usize) -> usize
         ensures { let j = k % suc top_most in (result ≡ place_at top_most self j) × (0 < get_or self.masks j 0 → first_bit self j < 64) }
     {
-        let masks = self.masks;
-        let prefix = self.prefix;
-        walk_masks::place(masks, prefix, k)
+        walk_masks::place(self.masks, self.prefix, k)
     }
 
     // The cursor once layer 0's lowest bit is handed out.
+    #[tactic(auto, unfolding(crate::specs::Walk::handed, crate::specs::Walk::less))]
     pub fn hand(self) -> Cursor
         ensures { result ≡ handed self }
     {
-        let masks = self.masks;
         let prefix = self.prefix;
         Cursor {
-            masks: walk_masks::without(masks, 0),
+            masks: walk_masks::without(self.masks, 0),
             prefix,
         }
     }
@@ -79,12 +81,10 @@ impl Cursor {
     pub fn handle_level(self, j: usize, word: u64) -> Cursor
         ensures { result ≡ handled top_most (j % top_most) word self }
     {
-        let masks = self.masks;
-        let prefix = self.prefix;
-        let q = walk_masks::place(masks, prefix, j % store::TOP + 1);
+        let q = self.place(j % store::TOP + 1);
         Cursor {
-            masks: walk_masks::taken(masks, j, word),
-            prefix: walk_masks::under(prefix, j, q),
+            masks: walk_masks::taken(self.masks, j, word),
+            prefix: walk_masks::under(self.prefix, j, q),
         }
     }
 
@@ -101,8 +101,7 @@ impl Cursor {
     pub fn wants(self) -> bool
         ensures { result ≡ is_reading (kind top_most self) }
     {
-        let masks = self.masks;
-        walk_masks::wants(masks)
+        walk_masks::wants(self.masks)
     }
 
     // One word is read. Each layer has a way of its own, so that the masks stay in registers.
@@ -111,14 +110,13 @@ impl Cursor {
         ensures { let ls = l0.now ∷ l1.now ∷ l2.now ∷ [] in
             Lowers (parts ls) top_most (low_layer top_most self - 1) self result }
     {
-        let masks = self.masks;
-        if masks[1] != 0 {
-            return self.read(l0, 0);
+        if self.masks[1] != 0 {
+            self.read(l0, 0)
+        } else if self.masks[2] != 0 {
+            self.read(l1, 1)
+        } else {
+            self.read(l2, 2)
         }
-        if masks[2] != 0 {
-            return self.read(l1, 1);
-        }
-        self.read(l2, 2)
     }
 
     // After so many reads, words of three layers are read until none is wanted or the budget is spent.
@@ -148,28 +146,33 @@ impl Cursor {
         }
     }
 
-    // The refusal of a walk on a store of n ids, none being no store; or 0.
-    pub fn refusal(self, n: usize) -> u32
-        ensures { result ≡ refusal_of n (fits (top n) self) }
+    // What a walk on a store of n ids, none being no store, is refused for.
+    pub fn check(self, n: usize) -> Result<(), Refusal>
+        ensures { result ≡ judged (refusal_of n (fits (top n) self)) }
     {
-        let prefix = self.prefix;
-        walk_masks::refusal(n, prefix)
+        walk_masks::check(n, self.prefix)
+    }
+
+    // What a walk of a store is refused for.
+    pub fn check_on(self, store: &[u64]) -> Result<(), Refusal>
+        ensures { result ≡ judged (refusal_on store.now self) }
+    {
+        let n = store::capacity(store)?;
+        self.check(n)
     }
 
     // What next answers where no word is read any more, after so many reads. An id has 32 bits.
     pub fn finish(self, reads: u64) -> Step
         ensures { Finishes top_most reads self result }
     {
-        let masks = self.masks;
-        if masks[0] != 0 {
-            let id = (self.place(0) % 4294967296) as u32;
-            let d = self.hand();
-            return d.step(reads, Next::Member(id));
+        if self.masks[0] != 0 {
+            let id = (self.place(0) & 0xffff_ffff) as u32;
+            self.hand().step(reads, Next::Member(id))
+        } else if self.wants() {
+            self.step(reads, Next::Paused)
+        } else {
+            self.step(reads, Next::End)
         }
-        if self.wants() {
-            return self.step(reads, Next::Paused);
-        }
-        self.step(reads, Next::End)
     }
 
     // Next over three layers, where nothing is refused.
@@ -178,35 +181,31 @@ impl Cursor {
         ensures { result ≡ next (parts (l0.now ∷ l1.now ∷ l2.now ∷ [])) top_most budget self }
     {
         let d = self.sink(l2, l1, l0, 0, budget);
-        let c = d.cursor;
-        c.finish(d.reads)
+        d.cursor.finish(d.reads)
     }
 
     // A walk's start: the top word is read. What the given cursor holds does not matter.
     pub fn start(self, store: &[u64]) -> Step
         ensures { Settled step_paper (start_of store.now self) result tt }
     {
-        if store::capacity(store) == 0 {
-            return self.step(0, Next::Refused(2));
+        match store::capacity(store) {
+            Ok(_) => above(store::top_word(store)).step(1, Next::Paused),
+            Err(no) => self.step(0, Next::Refused(no)),
         }
-        let c = above(store::top_word(store));
-        c.step(1, Next::Paused)
     }
 
     // The next member, at a budget of word reads.
     pub fn next(self, store: &[u64], budget: u64) -> Step
         ensures { Settled step_paper (next_of store.now self budget) result tt }
     {
-        let n = store::capacity(store);
-        let no = self.refusal(n);
-        if no != 0 {
-            return self.step(0, Next::Refused(no));
+        match self.check_on(store) {
+            Ok(()) => self.run(
+                set_layers::layer2_as_slice(store),
+                set_layers::layer1_as_slice(store),
+                set_layers::layer0_as_slice(store),
+                budget,
+            ),
+            Err(no) => self.step(0, Next::Refused(no)),
         }
-        self.run(
-            set_layers::layer2_as_slice(store),
-            set_layers::layer1_as_slice(store),
-            set_layers::layer0_as_slice(store),
-            budget,
-        )
     }
 }

@@ -1,8 +1,8 @@
 -- What a fill does, by the lowest layer with a mask; and the turns and ends of its loop.
 use Rattle.store.proofs.TopLayer.{top_is}
-use mathlib.Core.Bool.{Bool, false, true, true≢false}
+use mathlib.Core.Bool.{Bool, false, true, cond, true≢false}
 use mathlib.Core.List.{List, [], ◌∷◌, ◌++◌, append_assoc, append-nil}
-use mathlib.Core.Logic.{◌≢◌, ⊎_elim}
+use mathlib.Core.Logic.{◌≢◌}
 use mathlib.Core.Path.{◌≡◌, refl, sym, ap, ap₂, ◌∙◌, subst}
 use Prim.Native.Nat.{ℕ, zero, suc, ◌+◌, ◌-◌, ◌≤◌, ◌<◌, ◌%◌, ◌^◌}
 use native.Mathlib.Nat.{add_assoc, add-zero, zero-add}
@@ -10,19 +10,20 @@ use native.Mathlib.Omega.{arith}
 use lib.ListN.{length, get_or, set, drop, length-append, length-set}
 use lib.Seq.{drop-cons, set_at}
 use Rattle.util.specs.Outcome.{Outcome, Settled, settled, settles}
-use Rattle.store.specs.Layout.{top, is_store, capacity_of, StoreOf, top_most}
+use Rattle.store.specs.Answer.{numbered}
+use Rattle.store.specs.Layout.{top, cap, is_store, StoreOf, top_most}
 use Rattle.store.specs.Word.{word}
 use Rattle.store.proofs.Geometry.{is_store_lem}
 use Rattle.set_layers.specs.Calls.{layer_part}
 use Rattle.walk.specs.Calls.{Fine, fits}
-use Rattle.walk.specs.Steps.{refusal_of, parts, is_reading, Going}
+use Rattle.walk.specs.Steps.{refusal_on, parts, is_reading, Going}
 use Rattle.walk.specs.Walk.{Kind, low_layer, kind, first_bit, place_at, handed, more, next}
 use Rattle.walk.specs.Walk.Kind.{gives, reads, done}
 use Rattle.walk.specs.declared.Cursor.{Cursor}
 use Rattle.walk.specs.declared.Next.{Next}
 use Rattle.walk.specs.declared.Next.TheVariants.{Member, Paused, End, Refused}
 use Rattle.walk.specs.declared.Step.{Step}
-use Rattle.walk.proofs.Answers.{was_refused, lent_words}
+use Rattle.walk.proofs.Answers.{lent_words}
 use Rattle.walk.proofs.Cursors.{Low, low_found, low_stop, low_at, reading_low, resting_low, id_cut}
 use Rattle.walk.proofs.Turns.{next-gives, next_done, next-paused, next-same}
 use Rattle.walk_fill.specs.Fill.{Filled, after, stopped, go_on, fill_from, rest_of, batch, batch_paper, filled, fill_in}
@@ -214,15 +215,7 @@ module _ (lw lw' : ℕ → ℕ → ℕ) (t : ℕ) (same : (k i : ℕ) → k < t 
 
 -- ---- the call
 
-pub fill_2 : (s : List ℕ) (c : Cursor) (b m : ℕ) → is_store s ≡ false → stopped (StopRefused 2) 0 c ≡ fill_in s c b m
-unfolding fill_in
-fill_2 s c b m h = sym (rw h)
-
 module _ {N : ℕ} {s : List ℕ} (z : StoreOf N s) (c : Cursor) where
-  pub fill_7 : (b m : ℕ) → fits (top N) c ≡ false → stopped (StopRefused 7) 0 c ≡ fill_in s c b m
-  unfolding fill_in
-  fill_7 b m h = sym (rw (is_store_lem z, z.names, h))
-
   pub fill_runs : (b m : ℕ) → fits (top N) c ≡ true → fill_from (word N s) (top N) m b c ≡ fill_in s c b m
   unfolding fill_in
   fill_runs b m h = sym (rw (is_store_lem z, z.names, h))
@@ -235,16 +228,20 @@ module _ {N : ℕ} {s : List ℕ} (z : StoreOf N s) (c : Cursor) where
       ∙ ap (λ (t : ℕ). fill_from (word N s) t m b c) (sym (top_is N)) ∙ fill_runs b m h
 
 -- a refusal, by the number that was found
-pub fill_refused : (s : List ℕ) {N n : ℕ} (c : Cursor) (b : ℕ) (out : List ℕ) {r : Batch} → N ≡ capacity_of s → n ≡ refusal_of N (fits (top N) c) → n ≢ 0
-    → r ≡ record { cursor = c; reads = 0; count = 0; stop = StopRefused n } → Settled batch_paper (filled (fill_in s c b (length out)) out) r out
-fill_refused s {N} {n} c b out e f h is =
-    let m = length out in
-    let w : stopped (StopRefused n) 0 c ≡ fill_in s c b m =
-    ⊎_elim
-    (λ (p : (is_store s ≡ false) × (n ≡ 2)). ap (λ (x : ℕ). stopped (StopRefused x) 0 c) p.1 ∙ fill_2 s c b m p.0)
-    (λ (p : StoreOf _ s × (fits (top N) c ≡ false) × (n ≡ 7)). ap (λ (x : ℕ). stopped (StopRefused x) 0 c) p.2 ∙ fill_7 p.0 c b m p.1)
-    (was_refused s c e f h) in
-    settled (ap (λ (x : Filled). filled x out) (sym w) ∙ ap (λ (x : Batch). record { numbers = batch_paper.numbers x; lent = out }) (sym is))
+pub fill_refused : (s : List ℕ) (c : Cursor) (b : ℕ) (out : List ℕ) {r : Batch} → refusal_on s c ≢ 0
+    → r ≡ record { cursor = c; reads = 0; count = 0; stop = StopRefused (numbered (refusal_on s c)) } → Settled batch_paper (filled (fill_in s c b (length out)) out) r out
+unfolding refusal_on fill_in
+fill_refused s c b out {r} h is =
+    settled (ap (λ (x : Filled). filled x out) (sym (go (is_store s) (fits (top (cap s)) c) h)) ∙ ap (λ (x : Batch). record { numbers = batch_paper.numbers x; lent = out }) (sym is))
+  where
+    f : Filled
+    f = fill_from (word (cap s) s) (top (cap s)) (length out) b c
+
+    go : (x y : Bool) → ◌≢◌ {A = ℕ} (cond x (cond y 0 7) 2) 0
+        → stopped (StopRefused (numbered (cond x (cond y 0 7) 2))) 0 c ≡ cond x (cond y f (stopped (StopRefused (numbered 7)) 0 c)) (stopped (StopRefused (numbered 2)) 0 c)
+    go true true h = absurd (h refl)
+    go true false h = refl
+    go false y h = refl
 
 -- a fill that the definition answers
 pub fill_answered : {a f : Filled} (out : List ℕ) {x : List ℕ} {r : Batch} → a ≡ f → Settled batch_paper (filled a out) r x → Settled batch_paper (filled f out) r x

@@ -1,9 +1,10 @@
 -- Many members in one call, by one call of next after another: as many members as `out` holds or the budget allows, the same members,
 -- reads and cursor as that many calls of next have; places of `out` that are not used stay as they were.
 use Rattle.std.specs.Prelude.{cond, List, [], ◌∷◌, ◌++◌, ◌≡◌, refl, ℕ, zero, suc, ◌+◌, ◌-◌, length, get_or, take, drop}
-use Rattle.std.proofs.Common.{ap₂}
+use Rattle.std.proofs.Common.{ap, ap₂}
 use Rattle.std.proofs.Math.Seq.{take-append_seam, drop-append_seam}
 use Rattle.util.specs.Outcome.{Outcome, Paper}
+use Rattle.store.specs.Answer.{number, numbered, numbered_number}
 use Rattle.store.specs.Layout.{top, cap, is_store}
 use Rattle.store.specs.Word.{word}
 use Rattle.walk.specs.Calls.{fits}
@@ -53,25 +54,25 @@ rest_of done = StopEnd
 -- ---- a batch on paper: the refusal's number or 0; 1 for full, 2 for paused, 3 for the end, 0 for a refusal; the number of members; the
 -- reads; how many masks there are, the masks, the prefixes
 
-abbrev number : Stop → ℕ
-number Full = 0
-number StopPaused = 0
-number StopEnd = 0
-number (StopRefused n) = n
+abbrev refusal_in : Stop → ℕ
+refusal_in Full = 0
+refusal_in StopPaused = 0
+refusal_in StopEnd = 0
+refusal_in (StopRefused e) = number e
 
 abbrev which : Stop → ℕ
 which Full = 1
 which StopPaused = 2
 which StopEnd = 3
-which (StopRefused n) = 0
+which (StopRefused e) = 0
 
 abbrev numbers : Batch → List ℕ
 numbers a =
     let c = a.cursor in
-    number a.stop ∷ which a.stop ∷ a.count ∷ a.reads ∷ length c.masks ∷ (c.masks ++ c.prefix)
+    refusal_in a.stop ∷ which a.stop ∷ a.count ∷ a.reads ∷ length c.masks ∷ (c.masks ++ c.prefix)
 
 abbrev stop_of : ℕ → ℕ → Stop
-stop_of n zero = StopRefused n
+stop_of n zero = StopRefused (numbered n)
 stop_of n (suc zero) = Full
 stop_of n (suc (suc zero)) = StopPaused
 stop_of n (suc (suc (suc w))) = StopEnd
@@ -84,11 +85,11 @@ read_back l = record {
   stop = stop_of (get_or l 0 0) (get_or l 1 0);
 }
 
-abbrev stop_back : (e : Stop) → stop_of (number e) (which e) ≡ e
+abbrev stop_back : (e : Stop) → stop_of (refusal_in e) (which e) ≡ e
 stop_back Full = refl
 stop_back StopPaused = refl
 stop_back StopEnd = refl
-stop_back (StopRefused n) = refl
+stop_back (StopRefused e) = ap StopRefused (numbered_number e)
 
 abbrev batch_back : (a : Batch) → read_back (numbers a) ≡ a
 batch_back a =
@@ -114,7 +115,7 @@ unfoldable pub fill_in : List ℕ → Cursor → ℕ → ℕ → Filled
 fill_in s c b m =
     let N = cap s in
     let f = fill_from (word N s) (top N) m b c in
-    cond (is_store s) (cond (fits (top N) c) f (stopped (StopRefused 7) 0 c)) (stopped (StopRefused 2) 0 c)
+    cond (is_store s) (cond (fits (top N) c) f (stopped (StopRefused (numbered 7)) 0 c)) (stopped (StopRefused (numbered 2)) 0 c)
 
 abbrev pub fill_of : List ℕ → Cursor → ℕ → List ℕ → Outcome (List ℕ)
 fill_of s c b out = filled (fill_in s c b (length out)) out

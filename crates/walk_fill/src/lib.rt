@@ -9,6 +9,7 @@ ghost use Rattle.walk.specs.Steps.{parts};
 ghost use Rattle.walk.specs.Walk.{kind};
 ghost use Rattle.walk_fill.specs.Fill.{fill_from, batch_paper, filled, fill_of, rest_of};
 
+use store::Refusal;
 use walk::Cursor;
 
 // Why a fill stopped: the places were full, or as next.
@@ -17,7 +18,7 @@ pub enum Stop {
     Full,
     Paused,
     End,
-    Refused(u32),
+    Refused(Refusal),
 }
 
 // The changed cursor, the words read by this call, the members handed out, and why no more were.
@@ -45,10 +46,7 @@ pub fn made(c: Cursor, reads: u64, count: usize, stop: Stop) -> Batch
 pub fn rest(c: Cursor, reads: u64, count: usize) -> Batch
     ensures { result ≡ record { cursor = c; reads = reads; count = count; stop = rest_of (kind top_most c) } }
 {
-    if c.wants() {
-        return made(c, reads, count, Stop::Paused);
-    }
-    made(c, reads, count, Stop::End)
+    made(c, reads, count, if c.wants() { Stop::Paused } else { Stop::End })
 }
 
 // The id at a place of layer 0 is written to a place of `out`, where there is one. An id has 32 bits.
@@ -56,8 +54,7 @@ pub fn put_id(out: &mut [u32], at: usize, place: usize)
     ensures { out.new ≡ set out.old at (place % 2 ^ 32) }
 {
     if at < out.len() {
-        out[at] = (place % 4294967296) as u32;
-        return;
+        out[at] = (place & 0xffff_ffff) as u32;
     }
 }
 
@@ -89,17 +86,15 @@ fn fill_in(from: Cursor, l2: &[u64], l1: &[u64], l0: &[u64], budget: u64, out: &
 pub fn fill(c: Cursor, store: &[u64], budget: u64, out: &mut [u32]) -> Batch
     ensures { Settled batch_paper (fill_of store.now c budget out.old) result out.new }
 {
-    let n = store::capacity(store);
-    let no = c.refusal(n);
-    if no != 0 {
-        return made(c, 0, 0, Stop::Refused(no));
+    match c.check_on(store) {
+        Ok(()) => fill_in(
+            c,
+            set_layers::layer2_as_slice(store),
+            set_layers::layer1_as_slice(store),
+            set_layers::layer0_as_slice(store),
+            budget,
+            out,
+        ),
+        Err(no) => made(c, 0, 0, Stop::Refused(no)),
     }
-    fill_in(
-        c,
-        set_layers::layer2_as_slice(store),
-        set_layers::layer1_as_slice(store),
-        set_layers::layer0_as_slice(store),
-        budget,
-        out,
-    )
 }
