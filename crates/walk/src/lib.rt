@@ -10,7 +10,6 @@ ghost use Rattle.walk.specs.Steps.{refusal_of, refusal_on, parts, is_reading, Lo
 ghost use Rattle.walk.specs.Walk.{low_layer, kind, first_bit, place_at, handed, handled, start_at, next};
 
 use store::Refusal;
-
 pub use walk_masks::are_prefixes;
 
 // Layer k's mask and prefix stand at place k; the top layer has no prefix.

@@ -46,7 +46,8 @@ pub fn made(c: Cursor, reads: u64, count: usize, stop: Stop) -> Batch
 pub fn rest(c: Cursor, reads: u64, count: usize) -> Batch
     ensures { result ≡ record { cursor = c; reads = reads; count = count; stop = rest_of (kind top_most c) } }
 {
-    made(c, reads, count, if c.wants() { Stop::Paused } else { Stop::End })
+    let stop = if c.wants() { Stop::Paused } else { Stop::End };
+    made(c, reads, count, stop)
 }
 
 // The id at a place of layer 0 is written to a place of `out`, where there is one. An id has 32 bits.

@@ -3,7 +3,9 @@ use mathlib.Core.Bool.{true, false}
 use mathlib.Core.List.{List, [], ◌∷◌, map}
 use mathlib.Core.Path.{◌≡◌, refl, sym, ap, ◌∙◌}
 use Prim.Native.Nat.{ℕ, ◌+◌}
+use Rattle.store.specs.Answer.{numbered}
 use Rattle.store.specs.Layout.{top_most, top, cap, is_store}
+use Rattle.store.specs.declared.Refusal.TheVariants.{NoStore}
 use Rattle.store.specs.Word.{word, members, Words64, SoundStore}
 use Rattle.store.proofs.Geometry.{store_is}
 use Rattle.walk.specs.Calls.{refused, start_in, next_in}
@@ -60,8 +62,8 @@ module _ (s : List ℕ) (bs : List ℕ) where
 -- A READER OF A SLICE THAT IS NO STORE is made with a cursor of zeros. Every step of it is refused: "Each returns its number and zeros
 -- elsewhere and changes nothing lent; a refused next hands back its cursor as given."
 pub reader_no_store : (s : List ℕ) → is_store s ≡ false
-    → (started_of s ≡ start_at top_most 0) × ((c : Cursor) (b : ℕ) → (told (next_in s c b) ≡ record { reads = 0; answer = Refused 2 }) × ((next_in s c b).cursor ≡ c))
-unfolding start_in next_in
+    → (started_of s ≡ start_at top_most 0) × ((c : Cursor) (b : ℕ) → (told (next_in s c b) ≡ record { reads = 0; answer = Refused NoStore }) × ((next_in s c b).cursor ≡ c))
+unfolding start_in next_in numbered
 reader_no_store s h =
     let e : start_in s (start_at top_most 0) ≡ refused 2 (start_at top_most 0) = rw h in
     (ap (λ (a : Step). a.cursor) e, λ c b. (let f : next_in s c b ≡ refused 2 c = rw h in (ap told f, ap (λ (a : Step). a.cursor) f)))
