@@ -13,13 +13,12 @@ fn part(store: &[u64], k: usize) -> Part
     requires { k < 3 }
     ensures { result ≡ part_of store.now k }
 {
-    let n = store::capacity(store);
-    if n == 0 {
+    let Ok(n) = store::capacity(store) else {
         return Part {
             start: 0,
             length: 0,
         };
-    }
+    };
     let a = store::start(store.len(), n, k);
     let e = store::end(n, k);
     Part {
@@ -32,7 +31,7 @@ fn part(store: &[u64], k: usize) -> Part
 pub extern "C" fn fen_get_from_layer(store: &[u64], layer: usize, index: usize) -> Answer
     ensures { result ≡ answer_of (word_of store.now layer index).numbers }
 {
-    export_answer::read(set_layers::get_from_layer(store, layer, index))
+    Answer::from(set_layers::get_from_layer(store, layer, index))
 }
 
 #[unsafe(no_mangle)]

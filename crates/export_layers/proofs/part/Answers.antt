@@ -5,18 +5,14 @@ use Rattle.store.proofs.Ends.{part, some_store, no_store}
 use Rattle.export_layers.proofs.Parts.{span_none, span_is}
 use Rattle.export_layers.proofs.part.Goals as goal
 
-pub returns-then-n-eq0 : goal.returns-then-n-eq0
-returns-then-n-eq0 c =
-    let a = c.args in
-    span_none a.store.now a.k (no_store a.store.now c.capacity-n.ensures c.if-n-eq0.true)
+pub returns-in_default : goal.returns-in_default
+returns-in_default c = span_none c.args.store.now c.args.k (no_store c.args.store.now c.capacity.ensures c.in_default.is)
 
 pub overflow_sub-result : goal.overflow_sub-result
 overflow_sub-result c =
-    let store_here = some_store c.args.store.now c.capacity-n.ensures c.if-n-eq0.false in
-    let p = part store_here c.args.k (omega (arith, top_low c.capacity-n.result)) in
+    let p = part (some_store c.args.store.now c.capacity.ensures c.in-Ok.is) c.args.k (omega (arith, top_low c.in-Ok.n)) in
     omega arith
 
 pub returns : goal.returns
 returns c =
-    let store_here = some_store c.args.store.now c.capacity-n.ensures c.if-n-eq0.false in
-    span_is store_here c.args.k _ _ (omega (arith, top_low c.capacity-n.result)) c.start-a.ensures c.end-e.ensures
+    span_is (some_store c.args.store.now c.capacity.ensures c.in-Ok.is) c.args.k _ _ (omega (arith, top_low c.in-Ok.n)) c.start-a.ensures c.end-e.ensures
