@@ -1,5 +1,5 @@
 -- An answer's numbers as a C caller gets them. Document 01: "Each returns its number and zeros elsewhere".
-use Rattle.std.specs.Prelude.{List, [], ◌∷◌, ℕ}
+use Rattle.std.specs.Prelude.{List, [], ◌∷◌, ℕ, Option, Some, None}
 use Rattle.export_answer.specs.declared.Answer.{Answer}
 use Rattle.export_answer.specs.declared.Bit.{Bit}
 
@@ -13,3 +13,8 @@ answer_of (n ∷ v ∷ l) = record { refusal = n; value = v }
 abbrev pub bit_of : List ℕ → Bit
 bit_of [] = record { some = 0; bit = 0 }
 bit_of (p ∷ l) = record { some = 1; bit = p }
+
+-- the same off what is answered
+abbrev pub bit_told : Option ℕ → Bit
+bit_told (Some p) = record { some = 1; bit = p }
+bit_told None = record { some = 0; bit = 0 }

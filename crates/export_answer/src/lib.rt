@@ -3,7 +3,7 @@
 
 ghost use Rattle.std.specs.Prelude.{cond, ◌≡◌, ℕ};
 ghost use Rattle.store.specs.Answer.{on_paper};
-ghost use Rattle.export_answer.specs.Abi.{answer_of};
+ghost use Rattle.export_answer.specs.Abi.{answer_of, bit_told};
 
 use store::Refusal;
 
@@ -29,6 +29,18 @@ pub struct Part {
 pub struct Bit {
     pub some: u64,
     pub bit: u64,
+}
+
+impl From<Option<u64>> for Bit {
+    ghost from_gives = { λ o b. b ≡ bit_told o };
+
+    // The bit, or none.
+    fn from(o: Option<u64>) -> Bit {
+        match o {
+            Some(bit) => Bit { some: 1, bit },
+            None => Bit { some: 0, bit: 0 },
+        }
+    }
 }
 
 // What a call answers where it does not refuse, told as a number.
