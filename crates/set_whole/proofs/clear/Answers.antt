@@ -1,14 +1,10 @@
 -- `clear` meets its contract.
-use Rattle.store.proofs.Ends.{some_store, no_store}
+use Rattle.store.proofs.Ends.{some_store}
 use Rattle.set_whole.proofs.Answers.{clear_2, clear_done}
 use Rattle.set_whole.proofs.clear.Goals as goal
 
-pub returns-then-n-eq0 : goal.returns-then-n-eq0
-returns-then-n-eq0 c =
-    let s = c.args.store.now in
-    clear_2 s (no_store s c.capacity-n.ensures c.if-n-eq0.true)
+pub returns-in_err-n : goal.returns-in_err-n
+returns-in_err-n c = clear_2 c.args.store.now c.capacity.ensures c.in_err-n.was c.from_residual.ensures.1
 
 pub returns : goal.returns
-returns c =
-    let s = c.args.store.now in
-    clear_done (some_store s c.capacity-n.ensures c.if-n-eq0.false) _ c.empty.ensures
+returns c = clear_done (some_store c.args.store.now c.capacity.ensures c.in_ok-n.was) _ c.empty.ensures

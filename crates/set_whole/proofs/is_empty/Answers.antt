@@ -1,14 +1,10 @@
 -- `is_empty` meets its contract.
-use Rattle.store.proofs.Ends.{some_store, no_store}
+use Rattle.store.proofs.Ends.{some_store}
 use Rattle.set_whole.proofs.Answers.{is_empty_2, is_empty_is}
 use Rattle.set_whole.proofs.is_empty.Goals as goal
 
-pub returns-then-n-eq0 : goal.returns-then-n-eq0
-returns-then-n-eq0 c =
-    let s = c.args.store.now in
-    is_empty_2 s (no_store s c.capacity-n.ensures c.if-n-eq0.true)
+pub returns-in_err-capacity : goal.returns-in_err-capacity
+returns-in_err-capacity c = is_empty_2 c.args.store.now c.capacity.ensures c.in_err-capacity.was c.from_residual.ensures.1
 
 pub returns : goal.returns
-returns c =
-    let s = c.args.store.now in
-    is_empty_is (some_store s c.capacity-n.ensures c.if-n-eq0.false) _ c.top_word.ensures
+returns c = is_empty_is (some_store c.args.store.now c.capacity.ensures c.in_ok-capacity.was) _ c.top_word.ensures

@@ -1,14 +1,9 @@
 -- `open` meets its contract.
-use mathlib.Core.Path.{sym, ◌∙◌}
 use Rattle.set_whole.proofs.Answers.{open_refused, open_done}
 use Rattle.set_whole.proofs.open.Goals as goal
 
-pub returns-then-no-ne0 : goal.returns-then-no-ne0
-returns-then-no-ne0 c =
-    let a = c.args in
-    open_refused a.store.now a.n c.can_open-no.ensures c.if-no-ne0.true
+pub returns-in_err-can_open : goal.returns-in_err-can_open
+returns-in_err-can_open c = open_refused c.args.store.now c.args.n c.can_open.ensures c.in_err-can_open.was c.from_residual.ensures.1
 
 pub returns : goal.returns
-returns c =
-    let a = c.args in
-    open_done a.store.now a.n _ (sym c.can_open-no.ensures ∙ c.if-no-ne0.false) c.empty.ensures
+returns c = open_done c.args.store.now c.args.n _ c.can_open.ensures c.in_ok-can_open.was c.empty.ensures
