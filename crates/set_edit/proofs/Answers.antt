@@ -1,7 +1,7 @@
 -- What each way out of the code answers is what the definition answers there.
 use mathlib.Core.Bool.{Bool, true, false, cond, not, ◌&&◌}
 use mathlib.Core.List.{List}
-use mathlib.Core.Logic.{◌≢◌}
+use mathlib.Core.Logic.{◌≢◌, inl, inr}
 use mathlib.Core.Path.{◌≡◌, refl, sym, ap, ◌∙◌}
 use Prim.Native.Nat.{ℕ, suc, ◌+◌, ◌/◌, ◌%◌, ◌^◌, ◌<◌}
 use native.Mathlib.Decide.{ℕ_discrete}
@@ -11,21 +11,25 @@ use borrow.Author.Tests.{eq-eqb, ne_eqb, lt-ltb}
 use lib.Dec.{ltb, eqb}
 use lib.ListN.{length, get_or, drop, set as set_at}
 use lib.Seq.{drop-cons, drop-length}
-use Rattle.util.specs.Outcome.{Settled, settled}
+use Rattle.util.specs.Outcome.{Outcome, Settled, settled}
 use Rattle.util.specs.Word.{bit, change}
 use Rattle.util.proofs.Bits.{change_kept, kept_change}
-use Rattle.store.specs.Answer.{asked_paper, did_paper}
+use Rattle.store.specs.Answer.{asked_paper, did_paper, tested, says, refuses}
 use Rattle.store.specs.Layout.{top, is_store, StoreOf}
 use Rattle.store.specs.Word.{word, on, anc}
-use Rattle.store.specs.declared.Asked.{Asked}
-use Rattle.store.specs.declared.Asked.TheVariants.{Is, Refused as AskedRefused}
-use Rattle.store.specs.declared.Did.TheVariants.{Done, Refused as DidRefused}
+use Rattle.store.specs.declared.Refusal.{Refusal}
+use Rattle.store.specs.declared.Refusal.TheVariants.{NoStore, Id}
+use Rattle.store.proofs.Exits.{no_store_out, tag_is}
+use Rattle.set_member.specs.declared.Place.{Place}
+use Rattle.set_member.proofs.Places.{Refused}
+use Rattle.std.specs.Prelude.{Result, Ok, Err, IsErrAnd}
+use Rattle.std.proofs.lemmas.Result.{err_from_is_err_and}
 use Rattle.store.proofs.Ends.{id-word}
 use Rattle.store.proofs.Geometry.{is_store_lem}
 use Rattle.store.proofs.Words.{on_lt}
 use Rattle.set_member.specs.Calls.{holds}
-use Rattle.set_member.specs.Place.{Placed, Inside, Outside}
-use Rattle.set_edit.specs.Calls.{stays, move_of, all_below, add_all, add_list_of}
+use Rattle.set_member.specs.Place.{Inside, Outside}
+use Rattle.set_edit.specs.Calls.{stays, move_of, add_of, remove_of, all_below, add_all, add_list_of}
 use Rattle.set_edit.specs.Edit.{edits, climb, layers_of, moved_by}
 use Rattle.set_edit.specs.Steps.{Edited, Begun, Ended, Moved}
 use Rattle.set_edit.proofs.Moves.{add_none, add_all_lem, add_one_layer, remove_none, remove_some, climb_some}
@@ -80,47 +84,61 @@ module _ (N : ℕ) (s : List ℕ) (i : ℕ) where
       go false (no h) d = rw (remove_none N s i h, ne_eqb (on N s 0 i) 1 h)
 
 -- the id has its place, and v is its word w with its bit set or cleared
-module _ {s : List ℕ} {i N a w : ℕ} (z : Inside s i N a w) (set : Bool) {v : ℕ} (e : v ≡ change set w (i % 64)) where
+module _ {s : List ℕ} {i : ℕ} {p : Place} (z : Inside s i p) (set : Bool) {v : ℕ} (e : v ≡ change set p.word (i % 64)) where
   -- the word stays as it is exactly if the bit is so already
-  pub bit_so : v ≡ w → on N s 0 i ≡ cond set 1 0
+  pub bit_so : v ≡ p.word → on p.n s 0 i ≡ cond set 1 0
   unfolding on
-  bit_so q = sym (ap (λ (x : ℕ). bit x (i % 64)) z.word_is) ∙ kept_change set w (i % 64) (omega arith) (sym e ∙ q)
+  bit_so q = sym (ap (λ (x : ℕ). bit x (i % 64)) z.word_is) ∙ kept_change set p.word (i % 64) (omega arith) (sym e ∙ q)
 
-  pub bit_not_so : w < 2 ^ 64 → v ≢ w → on N s 0 i ≢ cond set 1 0
+  pub bit_not_so : p.word < 2 ^ 64 → v ≢ p.word → on p.n s 0 i ≢ cond set 1 0
   unfolding on
-  bit_not_so small n q = n (e ∙ change_kept set w (i % 64) (omega arith) small (ap (λ (x : ℕ). bit x (i % 64)) z.word_is ∙ q))
+  bit_not_so small n q = n (e ∙ change_kept set p.word (i % 64) (omega arith) small (ap (λ (x : ℕ). bit x (i % 64)) z.word_is ∙ q))
 
   -- it is written to layer 0
-  pub id_edited : {t : List ℕ} → t ≡ set_at s (a + i / 64) v → Edited set s N i 0 t v
+  pub id_edited : {t : List ℕ} → t ≡ set_at s (p.start + i / 64) v → Edited set s p.n i 0 t v
   unfolding anc
   id_edited t-is = edited z.placed z.start_is refl set (e ∙ ap (λ (x : ℕ). change set x (i % 64)) z.word_is) t-is
 
-  pub id-begun : {t : List ℕ} → t ≡ set_at s (a + i / 64) v → Begun set s N i 1 t
+  pub id-begun : {t : List ℕ} → t ≡ set_at s (p.start + i / 64) v → Begun set s p.n i 1 t
   id-begun t-is = first set z.placed (id_edited t-is)
 
-pub id_inside : {s : List ℕ} {i N a w : ℕ} → Inside s i N a w → a + i / 64 < length s
-id_inside {s} {i} {N} z =
+pub id_inside : {s : List ℕ} {i : ℕ} {p : Place} → Inside s i p → p.start + i / 64 < length s
+id_inside z =
     let f = id-word z.placed.store z.placed.below z.start_is in
     omega (arith, f.here, f.inside, z.start_is)
 
 -- ---- one id: in no store, past the end of one, and in one
 
-module _ (s : List ℕ) (i : ℕ) where
-  module _ (set : Bool) (past : Asked) where
-    pub change_2 : is_store s ≡ false → Settled asked_paper (move_of set (stays past s) s i) (AskedRefused 2) s
-    unfolding move_of
-    change_2 h = settled (rw h)
+no_change : {s : List ℕ} (i : ℕ) (set : Bool) (o : Outcome (List ℕ)) → is_store s ≡ false → Settled asked_paper (move_of set o s i) (Err NoStore) s
+unfolding move_of
+no_change i set o h = settled (rw h)
 
-    pub change_past : Outside s i → Settled asked_paper (move_of set (stays past s) s i) past s
-    unfolding move_of
-    change_past o = settled (rw (is_store_lem o.store, o.store.names, o.past))
+module _ {s : List ℕ} {i : ℕ} where
+  past_end : (set : Bool) (r : Result Bool Refusal) → Outside s i → Settled asked_paper (move_of set (stays r s) s i) r s
+  unfolding move_of
+  past_end set r o = settled (rw (is_store_lem o.store, o.store.names, o.past))
 
-    pub change_is : (N : ℕ) → Placed s N i 0 → (r : ℕ) (t : List ℕ) → Moved set s N i t r
-        → Settled asked_paper (move_of set (stays past s) s i) (Is (says_held set r)) t
-    unfolding move_of
-    change_is N z r t m =
-        let e : says_held set r ≡ holds N s i = ap (says_held set) m.layers ∙ held_is N s i set in
-        settled (rw (is_store_lem z.store, z.store.names, lt-ltb i N z.below, ← e, ← m.memory))
+  pub add_refused : {x : Refusal} {q : Result Bool Refusal} → Refused s i x → IsErrAnd q (λ y. y ≡ x) → Settled asked_paper (add_of s i) q s
+  add_refused {x} {q} f o = let p = err_from_is_err_and q o in rw (p.1, p.2) (go f)
+    where
+      go : Refused s i x → Settled asked_paper (add_of s i) (Err x) s
+      go (inl h) = rw h.0 (past_end true (Err Id) h.1)
+      go (inr h) = rw h.0 (no_change i true (refuses 3 s) h.1)
+
+  pub remove_past : {x : Refusal} → Refused s i x → x ≡ Id → Settled asked_paper (remove_of s i) (Ok false) s
+  remove_past (inl h) e = past_end false (Ok false) h.1
+  remove_past (inr h) e = absurd (omega (arith, tag_is Id e, tag_is NoStore h.0))
+
+  pub remove_2 : {x : Refusal} → Refused s i x → x ≢ Id → Settled asked_paper (remove_of s i) (Err x) s
+  remove_2 (inl h) n = absurd (n h.0)
+  remove_2 (inr h) n = rw h.0 (no_change i false (says false s) h.1)
+
+  pub change_is : {p : Place} {set : Bool} (o : Outcome (List ℕ)) {r : ℕ} {t : List ℕ} → Inside s i p → Moved set s p.n i t r
+      → Settled asked_paper (move_of set o s i) (Ok (says_held set r)) t
+  unfolding move_of
+  change_is {p} {set} o {r} z m =
+      let e : says_held set r ≡ holds p.n s i = ap (says_held set) m.layers ∙ held_is p.n s i set in
+      settled (rw (is_store_lem z.placed.store, z.placed.store.names, lt-ltb i p.n z.placed.below, ← e, ← m.memory))
 
 -- ---- a list of ids
 
@@ -163,15 +181,16 @@ unfolding add_all
 add_end N s ids k h = ap (add_all N s) (ap (λ (x : ℕ). drop x ids) h ∙ drop-length ids)
 
 module _ (s ids : List ℕ) where
-  pub list_2 : is_store s ≡ false → Settled did_paper (add_list_of s ids) (DidRefused 2) s
+  pub list_2 : {r : Result ℕ Refusal} {q : Result (Unit {0}) Refusal} {x : Refusal} → r ≡ tested s → r ≡ Err x → IsErrAnd q (λ y. y ≡ x)
+      → Settled did_paper (add_list_of s ids) q s
   unfolding add_list_of
-  list_2 h = settled (rw h)
+  list_2 e h o = let p = no_store_out s e h o in rw p.1 (settled (rw p.0))
 
   module _ (N : ℕ) (z : StoreOf N s) where
-    pub list_3 : all_below N ids ≡ false → Settled did_paper (add_list_of s ids) (DidRefused 3) s
+    pub list_3 : all_below N ids ≡ false → Settled did_paper (add_list_of s ids) (Err Id) s
     unfolding add_list_of
     list_3 h = settled (rw (is_store_lem z, z.names, h))
 
-    pub list_done : (t : List ℕ) → all_below N ids ≡ true → t ≡ add_all N s ids → Settled did_paper (add_list_of s ids) Done t
+    pub list_done : (t : List ℕ) → all_below N ids ≡ true → t ≡ add_all N s ids → Settled did_paper (add_list_of s ids) (Ok tt) t
     unfolding add_list_of
     list_done t h e = settled (rw (is_store_lem z, z.names, h, ← e))

@@ -1,14 +1,14 @@
 -- What each call that changes ids does, for all inputs. Document 01, "Calls on one store", and its refusals.
-use Rattle.std.specs.Prelude.{Bool, true, false, cond, ◌&&◌, List, [], ◌∷◌, ℕ, ltb}
+use Rattle.std.specs.Prelude.{Bool, true, false, cond, ◌&&◌, List, [], ◌∷◌, ℕ, ltb, Result}
 use Rattle.util.specs.Outcome.{Outcome}
 use Rattle.store.specs.Answer.{asked_paper, says, does, refuses}
 use Rattle.store.specs.Layout.{cap, is_store}
-use Rattle.store.specs.declared.Asked.{Asked}
+use Rattle.store.specs.declared.Refusal.{Refusal}
 use Rattle.set_member.specs.Calls.{holds}
 use Rattle.set_edit.specs.Edit.{moved_by}
 
 -- an answer that changes nothing
-abbrev pub stays : Asked → List ℕ → Outcome (List ℕ)
+abbrev pub stays : Result Bool Refusal → List ℕ → Outcome (List ℕ)
 stays r s = record { numbers = asked_paper.numbers r; lent = s }
 
 -- An id added, or removed, where it has room; the answer is whether it was held. At or past N the outcome is `past`.

@@ -12,7 +12,7 @@ ghost use Rattle.set_edit.specs.Edit.{climb};
 ghost use Rattle.set_edit.specs.Steps.{Edited, Begun, Climbing, Ended, Moved};
 
 use set_member::Place;
-use store::{Asked, Did};
+use store::Refusal;
 
 // The word-writing leaf: word i of a layer, lent as a part of its store, becomes w.
 fn set_word(layer: &mut [u64], i: usize, w: u64)
@@ -75,58 +75,54 @@ fn unmark(store: &mut [u64], n: usize, id: u32) -> usize
     k
 }
 
-// The crate's `add` and `add_slow`: layer 0, which starts at a, or, where its old word was 0, every layer is written; answers how many
-// are.
-fn add_in(store: &mut [u64], n: usize, a: usize, id: u32, old: u64) -> usize
-    requires { Inside store.old id n a old }
-    ensures { Moved true store.old n id store.new result }
+// The crate's `add` and `add_slow`: layer 0 or, where its old word was 0, every layer is written; answers how many are.
+fn add_in(store: &mut [u64], place: Place, id: u32) -> usize
+    requires { Inside store.old id place }
+    ensures { Moved true store.old place.n id store.new result }
 {
-    let w = util::with_bit(old, id as usize, true);
-    if w == old {
+    let w = util::with_bit(place.word, id as usize, true);
+    if w == place.word {
         return 0;
     }
-    set_id_word(store, a, id, w);
-    if old != 0 {
+    set_id_word(store, place.start, id, w);
+    if place.word != 0 {
         return 1;
     }
-    mark(store, n, id)
+    mark(store, place.n, id)
 }
 
 // The crate's `remove`: layer 0 and, while words become 0, the layers above are written; answers how many are.
-fn remove_in(store: &mut [u64], n: usize, a: usize, id: u32, old: u64) -> usize
-    requires { Inside store.old id n a old }
-    ensures { Moved false store.old n id store.new result }
+fn remove_in(store: &mut [u64], place: Place, id: u32) -> usize
+    requires { Inside store.old id place }
+    ensures { Moved false store.old place.n id store.new result }
 {
-    let w = util::with_bit(old, id as usize, false);
-    if w == old {
+    let w = util::with_bit(place.word, id as usize, false);
+    if w == place.word {
         return 0;
     }
-    set_id_word(store, a, id, w);
+    set_id_word(store, place.start, id, w);
     if w != 0 {
         return 1;
     }
-    unmark(store, n, id)
+    unmark(store, place.n, id)
 }
 
 // Adds an id; answers whether it was held already.
-pub fn add(store: &mut [u64], id: u32) -> Asked
+pub fn add(store: &mut [u64], id: u32) -> Result<bool, Refusal>
     ensures { Settled asked_paper (add_of store.old id) result store.new }
 {
-    match set_member::locate(store, id) {
-        Place::In(n, a, old) => Asked::Is(add_in(store, n, a, id, old) == 0),
-        Place::Past => Asked::Refused(3),
-        Place::Nowhere => Asked::Refused(2),
-    }
+    let place = set_member::locate(store, id)?;
+    Ok(add_in(store, place, id) == 0)
 }
 
 // Removes an id; answers whether it was held.
-pub fn remove(store: &mut [u64], id: u32) -> Asked
+pub fn remove(store: &mut [u64], id: u32) -> Result<bool, Refusal>
     ensures { Settled asked_paper (remove_of store.old id) result store.new }
 {
     match set_member::locate(store, id) {
-        Place::In(n, a, old) => Asked::Is(remove_in(store, n, a, id, old) != 0),
-        Place::Past => Asked::Is(false),
-        Place::Nowhere => Asked::Refused(2),
+        Ok(place) => Ok(remove_in(store, place, id) != 0),
+        Err(Refusal::Id) => Ok(false),
+        Err(no) => Err(no),
     }
 }
 
@@ -154,23 +150,20 @@ fn add_all(store: &mut [u64], n: usize, ids: &[u32])
     let mut i = 0;
     while i < ids.len() {
         let id = ids[i];
-        let old = store[store::id_word(a, id)];
-        add_in(store, n, a, id, old);
+        let word = store[store::id_word(a, id)];
+        add_in(store, Place { n, start: a, word }, id);
         i += 1;
     }
 }
 
 // Adds a list of ids: all, or none where one has no room.
-pub fn add_list(store: &mut [u64], ids: &[u32]) -> Did
+pub fn add_list(store: &mut [u64], ids: &[u32]) -> Result<(), Refusal>
     ensures { Settled did_paper (add_list_of store.old ids.now) result store.new }
 {
-    let n = store::capacity(store);
-    if n == 0 {
-        return Did::Refused(2);
-    }
+    let n = store::capacity(store)?;
     if !all_below(ids, n) {
-        return Did::Refused(3);
+        return Err(Refusal::Id);
     }
     add_all(store, n, ids);
-    Did::Done
+    Ok(())
 }

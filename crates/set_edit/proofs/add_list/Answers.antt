@@ -1,32 +1,24 @@
 -- `add_list` meets its contract.
-use mathlib.Core.Path.{sym, ◌∙◌}
-use Rattle.store.proofs.Ends.{some_store, no_store}
+use Rattle.std.proofs.Common.{sym, ◌∙◌}
+use Rattle.store.proofs.Ends.{some_store}
 use Rattle.set_edit.proofs.Answers.{list_2, list_3, list_done}
 use Rattle.set_edit.proofs.add_list.Goals as goal
 
-pub returns-then-n-eq0 : goal.returns-then-n-eq0
-returns-then-n-eq0 c =
-    let a = c.args in
-    list_2 a.store.now a.ids.now (no_store a.store.now c.capacity-n.ensures c.if-n-eq0.true)
+pub returns-in_err-n : goal.returns-in_err-n
+returns-in_err-n c = list_2 c.args.store.now c.args.ids.now c.capacity.ensures c.in_err-n.was c.from_residual.ensures.1
 
 pub all_below-requires : goal.all_below-requires
-all_below-requires c =
-    let store_here = some_store c.args.store.now c.capacity-n.ensures c.if-n-eq0.false in
-    store_here.most
+all_below-requires c = (some_store c.args.store.now c.capacity.ensures c.in_ok-n.was).most
 
 pub returns-then-not-all_below : goal.returns-then-not-all_below
 returns-then-not-all_below c =
-    let store_here = some_store c.args.store.now c.capacity-n.ensures c.if-n-eq0.false in
-    let a = c.args in
-    list_3 a.store.now a.ids.now _ store_here (sym c.all_below.ensures ∙ c.if-not-all_below.true)
+    list_3 c.args.store.now c.args.ids.now _ (some_store c.args.store.now c.capacity.ensures c.in_ok-n.was) (sym c.all_below.ensures ∙ c.if-not-all_below.true)
 
 pub add_all-requires : goal.add_all-requires
 add_all-requires c =
-    let store_here = some_store c.args.store.now c.capacity-n.ensures c.if-n-eq0.false in
-    (store_here, sym c.all_below.ensures ∙ c.if-not-all_below.false)
+    (some_store c.args.store.now c.capacity.ensures c.in_ok-n.was, sym c.all_below.ensures ∙ c.if-not-all_below.false)
 
 pub returns : goal.returns
 returns c =
-    let store_here = some_store c.args.store.now c.capacity-n.ensures c.if-n-eq0.false in
-    let a = c.args in
-    list_done a.store.now a.ids.now _ store_here _ (sym c.all_below.ensures ∙ c.if-not-all_below.false) c.add_all.ensures
+    list_done c.args.store.now c.args.ids.now _ (some_store c.args.store.now c.capacity.ensures c.in_ok-n.was) _
+    (sym c.all_below.ensures ∙ c.if-not-all_below.false) c.add_all.ensures

@@ -1,25 +1,19 @@
 -- `remove` meets its contract.
-use mathlib.Core.Bool.{false}
-use Rattle.store.specs.declared.Asked.TheVariants.{Is}
-use Rattle.set_member.proofs.Places.{inside, outside, nowhere}
-use Rattle.set_edit.proofs.Answers.{change_2, change_past, change_is}
+use Rattle.std.proofs.Common.{arith}
+use Rattle.store.specs.declared.Refusal.TheVariants.{Id}
+use Rattle.store.proofs.Exits.{tag_is}
+use Rattle.set_member.proofs.Places.{inside, refused_at}
+use Rattle.set_edit.proofs.Answers.{remove_past, remove_2, change_is}
 use Rattle.set_edit.proofs.remove.Goals as goal
 
 pub remove_in-requires : goal.remove_in-requires
-remove_in-requires c =
-    inside _ _ c.locate.ensures c.in-In.is
+remove_in-requires c = inside _ _ c.locate.ensures c.in-Ok.is
 
-pub returns-in-In : goal.returns-in-In
-returns-in-In c =
-    let a = c.args in
-    change_is a.store.now a.id false (Is false) _ (inside _ _ c.locate.ensures c.in-In.is).placed c.remove_in.result c.remove_in.new.store c.remove_in.ensures
+pub returns-in-Ok : goal.returns-in-Ok
+returns-in-Ok c = change_is _ (inside _ _ c.locate.ensures c.in-Ok.is) c.remove_in.ensures
 
-pub returns-in-Past : goal.returns-in-Past
-returns-in-Past c =
-    let a = c.args in
-    change_past a.store.now a.id false (Is false) (outside _ _ c.locate.ensures c.in-Past.is)
+pub returns-in-Err-Id : goal.returns-in-Err-Id
+returns-in-Err-Id c = remove_past (refused_at _ _ c.locate.ensures c.in-Err-Id.is) c.in-Err-Id.field-0-is
 
-pub returns-in-Nowhere : goal.returns-in-Nowhere
-returns-in-Nowhere c =
-    let a = c.args in
-    change_2 a.store.now a.id false (Is false) (nowhere _ _ c.locate.ensures c.in-Nowhere.is)
+pub returns-in-Err : goal.returns-in-Err
+returns-in-Err c = remove_2 (refused_at _ _ c.locate.ensures c.in-Err.is) (λ e. omega (arith, tag_is Id e))
