@@ -1,20 +1,22 @@
 -- The kind of a code, by the tests that the code makes; what it takes; one turn of the check.
-use mathlib.Core.Bool.{Bool, true, false, cond, ◌&&◌, ◌||◌}
-use mathlib.Core.List.{List}
+use mathlib.Core.Bool.{Bool, true, false, cond, ◌&&◌}
+use mathlib.Core.List.{List, map}
 use mathlib.Core.Logic.{◌≢◌, ◌⊎◌, inl, inr, ⊎_elim}
 use mathlib.Core.Path.{◌≡◌, refl, sym, ap, ◌∙◌}
-use Prim.Native.Nat.{ℕ, suc, ◌+◌, ◌-◌, ◌≤◌, ◌<◌}
+use Prim.Native.Nat.{ℕ, suc, ◌+◌, ◌-◌, ◌%◌, ◌≤◌, ◌<◌}
 use native.Mathlib.Decide.{ℕ_discrete}
-use native.Mathlib.Numerals.{add-one}
 use native.Mathlib.Omega.{arith}
-use borrow.Author.Tests.{lt-ltb, le-ltb, le-leb, lt-leb, ne_eqb, ltb-true}
+use borrow.Author.Tests.{lt-ltb, le-ltb, ne_eqb, ltb-true}
 use lib.Dec.{leb, ltb}
-use lib.ListN.{length, get_or, drop, drop_of_length-le}
-use lib.Seq.{drop-cons}
+use lib.ListN.{length, get_or}
+use Rattle.std.proofs.Common.{[], Option, None, Some, drop, drop-cons, drop_of_length-le, add-one}
+use Rattle.std.proofs.lemmas.Option.{none-some, cond_some}
+use Rattle.std.proofs.Math.ListN.{get_or-map}
 use Rattle.util.proofs.Same.{both}
-use Rattle.formula_codes.specs.Codes.{code_kind, cuts_in, takes, takes_in, left}
+use Rattle.formula_codes.specs.Codes.{code_kind, takes, takes_in}
 use Rattle.formula_codes.specs.Codes.CodeKind.{is_store, is_unknown}
-use Rattle.formula_codes.specs.Steps.{waiting, Counting, Looking}
+use Rattle.formula_codes.specs.Steps.{waiting, waiting_after, Counting}
+use Rattle.formula_codes.specs.Tree.{nth}
 
 -- ---- the kinds
 
@@ -38,107 +40,76 @@ module _ (c : ℕ) where
 
 -- ---- what a code takes
 
+module _ (ss : List (List ℕ)) (c : ℕ) (h : c < 4) where
+  -- the length by which a store is lent
+  long : get_or (map length ss) c 0 ≡ length (nth ss (c % 4))
+  long = let e : c % 4 ≡ c = omega arith in get_or-map length ss c [] ∙ ap (λ (x : ℕ). length (nth ss x)) (sym e)
+
+  pub takes_lent : length (nth ss (c % 4)) ≢ 0 → takes_in (map length ss) c ≡ 0
+  unfolding takes_in
+  takes_lent n = rw (kind_store c h, long, lt-ltb 0 (length (nth ss (c % 4))) (omega arith))
+
+  pub takes_missing : length (nth ss (c % 4)) ≡ 0 → takes_in (map length ss) c ≡ 9
+  unfolding takes_in
+  takes_missing e = rw (kind_store c h, long, e)
+
 module _ (ls : List ℕ) (c : ℕ) where
-  pub takes_lent : c < 4 → get_or ls c 0 ≢ 0 → 0 ≡ takes_in ls c
-  unfolding takes_in
-  takes_lent h n = sym (rw (kind_store c h, lt-ltb 0 (get_or ls c 0) (omega arith)))
-
-  pub takes_missing : c < 4 → get_or ls c 0 ≡ 0 → 9 ≡ takes_in ls c
-  unfolding takes_in
-  takes_missing h e = sym (rw (kind_store c h, e))
-
-  pub takes_two : 16 ≤ c → c < 19 → 2 ≡ takes_in ls c
+  pub takes_two : 16 ≤ c → c < 19 → takes_in ls c ≡ 2
   unfolding takes_in code_kind
   takes_two h l = go (ℕ_discrete c 16) (ℕ_discrete c 17)
     where
-      go : Dec (c ≡ 16) → Dec (c ≡ 17) → 2 ≡ takes (code_kind c) (ltb 0 (get_or ls c 0))
-      go (yes e) d = sym (rw e)
-      go (no a) (yes e) = sym (rw e)
-      go (no a) (no b) = let e : c ≡ 18 = omega arith in sym (rw e)
+      go : Dec (c ≡ 16) → Dec (c ≡ 17) → takes (code_kind c) (ltb 0 (get_or ls c 0)) ≡ 2
+      go (yes e) d = rw e
+      go (no a) (yes e) = rw e
+      go (no a) (no b) = let e : c ≡ 18 = omega arith in rw e
 
-  pub takes_last : 19 ≤ c → c < 21 → 20 - c ≡ takes_in ls c
+  pub takes_one : c ≡ 19 → takes_in ls c ≡ 1
   unfolding takes_in code_kind
-  takes_last h l = go (ℕ_discrete c 19)
-    where
-      go : Dec (c ≡ 19) → 20 - c ≡ takes (code_kind c) (ltb 0 (get_or ls c 0))
-      go (yes e) = rw e
-      go (no n) = let e : c ≡ 20 = omega arith in rw e
+  takes_one e = rw e
 
-  pub takes_unknown : 4 ≤ c → (c < 16) ⊎ (21 ≤ c) → 9 ≡ takes_in ls c
+  pub takes_none : c ≡ 20 → takes_in ls c ≡ 0
+  unfolding takes_in code_kind
+  takes_none e = rw e
+
+  pub takes_low : 4 ≤ c → c < 16 → takes_in ls c ≡ 9
   unfolding takes_in
-  takes_unknown h o =
-      let out : (n : ℕ) → 16 ≤ n → n < 21 → c ≢ n = λ n a b e. ⊎_elim (λ (l : c < 16). omega arith) (λ (l : 21 ≤ c). omega arith) o in
-      sym (rw (kind_unknown c h (⊎_elim inl (λ (l : 21 ≤ c). inr (omega arith)) o) (out 19 (omega arith) (omega arith)) (out 20 (omega arith) (omega arith))))
+  takes_low h l = rw (kind_unknown c h (inl l) (λ e. omega arith) (λ e. omega arith))
 
--- ---- one code of the check, where d wait
+  pub takes_high : 21 ≤ c → takes_in ls c ≡ 9
+  unfolding takes_in
+  takes_high h = rw (kind_unknown c (omega arith) (inr (omega arith)) (λ e. omega arith) (λ e. omega arith))
 
-module _ (t d : ℕ) where
-  pub too_few : d < t → 0 ≡ waiting t d
-  unfolding waiting
-  too_few h = sym (rw (lt-leb t d h))
+pub ruleset taken = (takes_lent, takes_missing, takes_two, takes_one, takes_none, takes_low, takes_high)
 
-  pub too_many : t ≤ d → 8 ≤ d - t → 0 ≡ waiting t d
-  unfolding waiting
-  too_many l h = sym (rw (le-leb t d l, le-ltb (d - t) 8 h))
-
-  pub waits_one-more : t ≤ d → d - t < 8 → d - t + 1 ≡ waiting t d
-  unfolding waiting
-  waits_one-more l h = add-one (d - t) ∙ sym (rw (le-leb t d l, lt-ltb (d - t) 8 h))
-
--- a code that may not stand there takes more than ever wait
-pub none_waits : {d t : ℕ} → d ≤ 8 → 9 ≡ t → 0 ≡ waiting t d
-none_waits {d} {t} few e = too_few t d (omega (arith, e))
-
-pub as_taken : (d : ℕ) {t x r : ℕ} → r ≡ waiting t d → t ≡ x → r ≡ waiting x d
-as_taken d e f = e ∙ ap (λ (y : ℕ). waiting y d) f
+-- ---- the codes one after another
 
 pub counting_start : (ls cs : List ℕ) → Counting ls cs 0 0
 counting_start ls cs = record { few = omega arith; same = refl }
 
-module _ {ls cs : List ℕ} {d j r : ℕ} (g : Counting ls cs d j) (more : j < length cs) (r-is : r ≡ waiting (takes_in ls (get_or cs j 0)) d) where
-  abbrev t : ℕ
-  t = takes_in ls (get_or cs j 0)
+module _ {ls cs : List ℕ} {d j : ℕ} (g : Counting ls cs d j) where
+  module _ (more : j < length cs) where
+    abbrev t : ℕ
+    t = takes_in ls (get_or cs j 0)
 
-  -- the definition at this code
-  here : cond (leb t d && ltb (d - t) 8) (left ls (drop (suc j) cs) (suc (d - t))) 0 ≡ left ls cs 0
-  unfolding left
-  here = ap (λ (l : List ℕ). left ls l d) (sym (drop-cons cs j 0 more)) ∙ g.same
+    -- the definition at this code
+    here : cond (leb t d && ltb (d - t) 8) (waiting_after ls (drop (suc j) cs) (suc (d - t))) None ≡ waiting_after ls cs 0
+    unfolding waiting_after
+    here = ap (λ (l : List ℕ). waiting_after ls l d) (sym (drop-cons cs j 0 more)) ∙ g.same
 
-  by_test : (x : Bool) → (leb t d && ltb (d - t) 8) ≡ x → r ≡ cond x (suc (d - t)) 0
-  unfolding waiting
-  by_test x e = r-is ∙ ap (λ (y : Bool). cond y (suc (d - t)) 0) e
+    pub counting_stops : None ≡ waiting t d → None ≡ waiting_after ls cs 0
+    counting_stops e = go (waiting_after ls (drop (suc j) cs) (suc (d - t))) (leb t d && ltb (d - t) 8) e here
+      where
+        go : (o : Option ℕ) (x : Bool) → None ≡ cond x (Some (suc (d - t))) None → cond x o None ≡ waiting_after ls cs 0 → None ≡ waiting_after ls cs 0
+        go o true e h = absurd (none-some _ e)
+        go o false e h = h
 
-  pub stops : r ≡ 0 → 0 ≡ left ls cs 0
-  stops h = go (leb t d && ltb (d - t) 8) refl
-    where
-      go : (x : Bool) → (leb t d && ltb (d - t) 8) ≡ x → 0 ≡ left ls cs 0
-      go true e = absurd (omega (arith, h, by_test true e))
-      go false e = sym (rw e) ∙ here
+    pub counting_on : {r : ℕ} → Some r ≡ waiting t d → Counting ls cs r (j + 1)
+    counting_on {r} e =
+        let q = cond_some (leb t d && ltb (d - t) 8) _ r (sym e) in
+        record { few = omega (arith, q.1, ltb-true (d - t) 8 (both (leb t d) (ltb (d - t) 8) q.0).1); same = rw (add-one j, ← q.1) (sym (rw q.0) ∙ here) }
 
-  pub counting_on : r ≢ 0 → Counting ls cs r (j + 1)
-  counting_on h = go (leb t d && ltb (d - t) 8) refl
-    where
-      go : (x : Bool) → (leb t d && ltb (d - t) 8) ≡ x → Counting ls cs r (j + 1)
-      go true e = record { few = omega (arith, by_test true e, ltb-true (d - t) 8 (both (leb t d) (ltb (d - t) 8) e).1); same = rw (add-one j, by_test true e) (sym (rw e) ∙ here) }
-      go false e = absurd (h (by_test false e))
+  pub counting_done : length cs ≤ j → Some d ≡ waiting_after ls cs 0
+  unfolding waiting_after
+  counting_done h = sym (ap (λ (l : List ℕ). waiting_after ls l d) (drop_of_length-le cs h)) ∙ g.same
 
-pub counting_done : {ls cs : List ℕ} {d j : ℕ} → Counting ls cs d j → length cs ≤ j → d ≡ left ls cs 0
-unfolding left
-counting_done {ls} {cs} {d} g h = sym (ap (λ (l : List ℕ). left ls l d) (drop_of_length-le cs h)) ∙ g.same
-
--- ---- the look for a code that cuts
-
-module _ {cs : List ℕ} {j : ℕ} (g : Looking cs j) where
-  this : j < length cs → (leb 19 (get_or cs j 0) || cuts_in (drop (suc j) cs)) ≡ cuts_in cs
-  unfolding cuts_in
-  this h = ap cuts_in (sym (drop-cons cs j 0 h)) ∙ g.same
-
-  pub cut_found : j < length cs → 19 ≤ get_or cs j 0 → true ≡ cuts_in cs
-  cut_found h l = sym (rw (le-leb 19 (get_or cs j 0) l)) ∙ this h
-
-  pub cut_next : j < length cs → get_or cs j 0 < 19 → Looking cs (j + 1)
-  cut_next h l = record { same = ap (λ (n : ℕ). cuts_in (drop n cs)) (add-one j) ∙ sym (rw (lt-leb 19 (get_or cs j 0) l)) ∙ this h }
-
-  pub cuts_none : length cs ≤ j → false ≡ cuts_in cs
-  unfolding cuts_in
-  cuts_none h = sym (ap cuts_in (drop_of_length-le cs h)) ∙ g.same
+pub ruleset counting = (counting_start, counting_stops, counting_on, counting_done)

@@ -1,6 +1,7 @@
 -- The codes of a formula: the tree that they stand for, and which lists of codes are a formula. Document 01, refusal 6: "formula empty,
 -- over 32 codes, unknown code, store not lent, too few or over 8 values, not one left".
-use Rattle.std.specs.Prelude.{Bool, false, cond, ◌&&◌, ◌||◌, List, [], ◌∷◌, map, ℕ, suc, ◌-◌, leb, ltb, eqb, length, get_or}
+use Rattle.std.specs.Prelude.{Bool, cond, ◌&&◌, List, [], ◌∷◌, map, ℕ, suc, ◌-◌, leb, ltb, eqb, length, get_or}
+use Rattle.std.specs.List.{list_any}
 use Rattle.formula_codes.specs.Tree.{Tree}
 use Rattle.formula_codes.specs.Tree.Tree.{store, both, either, one_of, inverse, every}
 
@@ -54,9 +55,8 @@ tree_of cs = first_tree (trees cs [])
 -- ---- which codes look at the bits that exist
 
 -- "19 not, 20 all": whether some code looks at which bits exist; every code above 20 counts as one
-unfoldable pub cuts_in : List ℕ → Bool
-cuts_in [] = false
-cuts_in (c ∷ cs) = leb 19 c || cuts_in cs
+abbrev pub cuts_in : List ℕ → Bool
+cuts_in = list_any (leb 19)
 
 -- ---- the check
 

@@ -1,12 +1,31 @@
 // The codes of a formula over at most four stores: which lists of codes are one, and what is refused.
 #![tactic(auto)]
 
-ghost use Rattle.std.specs.Prelude.{true, ◌≢◌, ◌≡◌, ◌≤◌, length};
-ghost use Rattle.store.specs.Layout.{max_cap, store_len};
-ghost use Rattle.formula_codes.specs.Check.{beside_of, sooner, stores_of, check_of};
-ghost use Rattle.formula_codes.specs.Codes.{cuts_in, takes_in, left, is_formula};
-ghost use Rattle.formula_codes.specs.Steps.{waiting};
-ghost use Rattle.formula_codes.specs.Tree.{joined, four};
+ghost use Rattle.std.specs.Prelude.{true, ◌≡◌, ◌≤◌, ◌%◌, map, length, Ok};
+ghost use Rattle.store.specs.Answer.{judged, tested};
+ghost use Rattle.formula_codes.specs.Check.{beside_of, stores_of, check_of};
+ghost use Rattle.formula_codes.specs.Codes.{cuts_in, takes_in, is_formula};
+ghost use Rattle.formula_codes.specs.Formula.{slices, sized};
+ghost use Rattle.formula_codes.specs.Steps.{first_refusal, waiting, waiting_after};
+ghost use Rattle.formula_codes.specs.Tree.{joined, nth};
+
+use store::Refusal;
+
+// A formula as it is lent: its codes, and the slices that the codes 0 to 3 name. An empty slice is a store that is not lent.
+#[derive(Clone, Copy)]
+pub struct Formula<'a> {
+    pub codes: &'a [u8],
+    pub stores: [&'a [u64]; 4],
+}
+
+impl<'a> Formula<'a> {
+    // The slice that a code names; codes count modulo 4.
+    pub fn store(&self, code: u8) -> &'a [u64]
+        ensures { result.now ≡ nth (slices self.now) (code % 4) }
+    {
+        self.stores[(code % 4) as usize]
+    }
+}
 
 // What a code makes of two words of layer k: 16 and, 17 or, 18 xor, and any other as 18. Above layer 0, xor is or. A match stays a branch, so that
 // no word waits for the code; in this order of the arms the compiled code asks for 16 first.
@@ -26,176 +45,114 @@ pub fn joined(code: u8, k: usize, x: u64, y: u64) -> u64
 }
 
 // Whether some code is 19 or more: no other looks at which bits exist.
-#[tactic(auto, using(crate::proofs::Turns::cut_found))]
 pub fn cuts(codes: &[u8]) -> bool
     ensures { result ≡ cuts_in codes.now }
 {
-    let mut j = 0usize;
-    while j < codes.len() {
-        if 19 <= codes[j] {
-            return true;
-        }
-        j += 1;
-    }
-    false
+    codes.iter().any(|code| 19 <= *code)
 }
 
-// Of two refusals the one that comes first; 0 is none.
-fn sooner(a: u32, b: u32) -> u32
-    ensures { result ≡ sooner a b }
+// Of two answers the refusal that comes first by its number, if there is one.
+fn sooner(a: Result<(), Refusal>, b: Result<(), Refusal>) -> Result<(), Refusal>
+    ensures { result ≡ first_refusal a b }
 {
-    if a == 0 {
-        return b;
+    match (a, b) {
+        (Ok(()), _) => b,
+        (_, Ok(())) => a,
+        (Err(x), Err(y)) => if u32::from(x) < u32::from(y) { a } else { b },
     }
-    if b == 0 {
-        return a;
-    }
-    if a < b { a } else { b }
 }
 
-// What a slice that is not empty is refused for beside a store of capacity n: 0, 2 or 5.
-fn other(n: usize, s: &[u64]) -> u32
-    requires { length s.now ≢ 0 }
-    ensures { result ≡ beside_of n s.now }
+// What a slice is refused for beside a store of capacity n, where it is lent.
+#[tactic(auto, using(crate::proofs::Answers::beside_answers))]
+fn beside(n: usize, s: &[u64]) -> Result<(), Refusal>
+    ensures { result ≡ judged (beside_of n s.now) }
 {
-    let m = store::capacity(s);
-    if m == 0 {
-        return 2;
+    if s.is_empty() {
+        return Ok(());
     }
-    if m == n { 0 } else { 5 }
+    let m = store::capacity(s)?;
+    if m == n {
+        Ok(())
+    } else {
+        Err(Refusal::Capacities)
+    }
 }
 
-// What a slice is refused for beside a store of capacity n.
-fn beside(n: usize, s: &[u64]) -> u32
-    ensures { result ≡ beside_of n s.now }
-{
-    if s.len() == 0 {
-        return 0;
-    }
-    other(n, s)
-}
-
-// Whether a slice is empty, or names n as well and is as long as a store of capacity n, so that it needs no store test.
-fn like(n: usize, len: usize, s: &[u64]) -> bool
-    requires { (1 ≤ n) × (n ≤ max_cap) × (len ≡ store_len n) }
+// Whether a slice is empty, or names the capacity of a store and is as long as that, so that it needs no store test.
+#[tactic(auto, using(crate::proofs::Answers::like_answers))]
+fn like(n: usize, store: &[u64], s: &[u64]) -> bool
+    requires { Ok n ≡ tested store.now }
     ensures { result ≡ true → 0 ≡ beside_of n s.now }
 {
-    if s.len() == 0 {
-        return true;
-    }
-    if s.len() != len {
-        return false;
-    }
-    store::named(s) == n
+    s.is_empty() || s.len() == store.len() && store::named(s) == n
 }
 
-// The same of three slices.
-fn alike(n: usize, len: usize, s1: &[u64], s2: &[u64], s3: &[u64]) -> bool
-    requires { (1 ≤ n) × (n ≤ max_cap) × (len ≡ store_len n) }
-    ensures { result ≡ true → (0 ≡ beside_of n s1.now) × (0 ≡ beside_of n s2.now)
-        × (0 ≡ beside_of n s3.now) }
+// The capacity of the stores, or what the slices are refused for, by 2 or 5.
+#[tactic(auto, using(crate::proofs::Answers::stores_answers))]
+pub fn stores(f: &Formula<'_>) -> Result<usize, Refusal>
+    ensures { result ≡ sized (slices f.now) (stores_of (slices f.now)) }
 {
-    if !like(n, len, s1) {
-        return false;
+    let [s0, s1, s2, s3] = f.stores;
+    let n = store::capacity(s0)?;
+    if like(n, s0, s1) && like(n, s0, s2) && like(n, s0, s3) {
+        return Ok(n);
     }
-    if !like(n, len, s2) {
-        return false;
-    }
-    like(n, len, s3)
+    sooner(sooner(beside(n, s1), beside(n, s2)), beside(n, s3))?;
+    Ok(n)
 }
 
-// What the four slices are refused for: 0, 2 or 5.
-fn stores(s0: &[u64], s1: &[u64], s2: &[u64], s3: &[u64]) -> u32
-    ensures { result ≡ stores_of (four s0.now s1.now s2.now s3.now) }
-{
-    let n = store::capacity(s0);
-    if n == 0 {
-        return 2;
-    }
-    if alike(n, s0.len(), s1, s2, s3) {
-        return 0;
-    }
-    sooner(sooner(beside(n, s1), beside(n, s2)), beside(n, s3))
-}
-
-// How many values wait once a code has taken t of d and put one; 0 where there are too few, or where eight stay.
-#[tactic(auto, using(crate::proofs::Turns::too_many))]
-fn put(d: usize, t: usize) -> usize
-    requires { d ≤ 8 }
+// How many values wait once a code has taken t of d and put one; none where there are too few, or where eight stay.
+fn put(d: usize, t: usize) -> Option<usize>
     ensures { result ≡ waiting t d }
 {
-    if d < t {
-        return 0;
-    }
-    if 8 <= d - t {
-        return 0;
-    }
-    d - t + 1
+    let stay = d.checked_sub(t)?;
+    if stay < 8 { Some(stay + 1) } else { None }
 }
 
-// How many values wait after a code where d wait before it and the four slices have these lengths; 0 also for a code that may not stand
-// there. 19 takes one value, 20 none.
-fn after(code: u8, lens: &[usize; 4], d: usize) -> usize
+// How many values wait after a code where d wait before it; none also for a code that may not stand there. 19 takes one value, 20 none.
+#[tactic(auto, using(crate::proofs::Turns::taken))]
+fn after(f: &Formula<'_>, code: u8, d: usize) -> Option<usize>
     requires { d ≤ 8 }
-    ensures { result ≡ waiting (takes_in lens.now code) d }
+    ensures { result ≡ waiting (takes_in (map length (slices f.now)) code) d }
 {
     match code {
-        0..=3 => {
-            let i = code as usize;
-            if lens[i] == 0 {
-                return 0;
-            }
-            put(d, 0)
-        }
+        0..=3 if !f.store(code).is_empty() => put(d, 0),
         16..=18 => put(d, 2),
-        19..=20 => put(d, (20 - code) as usize),
-        _ => 0,
+        19 => put(d, 1),
+        20 => put(d, 0),
+        _ => None,
     }
 }
 
-// How many values wait after all codes; 0 where a code finds too few, or would make more than eight wait.
-fn left(codes: &[u8], lens: &[usize; 4]) -> usize
-    ensures { result ≡ left lens.now codes.now 0 }
+// How many values wait after all codes; none where a code finds too few, or would make more than eight wait.
+#[tactic(auto, using(crate::proofs::Turns::counting))]
+fn left(f: &Formula<'_>) -> Option<usize>
+    ensures { result ≡ waiting_after (map length (slices f.now)) f.now.codes.now 0 }
 {
-    let mut d = 0usize;
-    let mut j = 0usize;
-    while j < codes.len() {
-        d = after(codes[j], lens, d);
-        if d == 0 {
-            return 0;
-        }
-        j += 1;
+    let mut d = 0;
+    for code in f.codes {
+        d = after(f, *code, d)?;
     }
-    d
+    Some(d)
 }
 
-// Whether the codes are a formula over the four slices.
-#[tactic(auto, using(crate::proofs::Answers::formula_long))]
-fn is_formula(codes: &[u8], s0: &[u64], s1: &[u64], s2: &[u64], s3: &[u64]) -> bool
-    ensures { result ≡ is_formula (four s0.now s1.now s2.now s3.now) codes.now }
+// Whether the codes are a formula over the four slices. Of no codes nothing is left.
+#[tactic(auto, using(crate::proofs::Answers::formula_answers))]
+pub fn is_formula(f: &Formula<'_>) -> bool
+    ensures { result ≡ is_formula (slices f.now) f.now.codes.now }
 {
-    let n = codes.len();
-    if n == 0 {
-        return false;
-    }
-    if 32 < n {
-        return false;
-    }
-    let lens = [s0.len(), s1.len(), s2.len(), s3.len()];
-    left(codes, &lens) == 1
+    f.codes.len() <= 32 && left(f) == Some(1)
 }
 
-// The judge of every call over a formula: 0, or the number of the refusal among 2, 5 and 6.
-pub fn check(codes: &[u8], s0: &[u64], s1: &[u64], s2: &[u64], s3: &[u64]) -> u32
-    ensures { result ≡ check_of (four s0.now s1.now s2.now s3.now) codes.now }
+// The judge of every call over a formula: the capacity of its stores, or the refusal among 2, 5 and 6.
+#[tactic(auto, using(crate::proofs::Answers::check_answers))]
+pub fn check(f: &Formula<'_>) -> Result<usize, Refusal>
+    ensures { result ≡ sized (slices f.now) (check_of (slices f.now) f.now.codes.now) }
 {
-    let no = stores(s0, s1, s2, s3);
-    if no != 0 {
-        return no;
-    }
-    if is_formula(codes, s0, s1, s2, s3) {
-        0
+    let n = stores(f)?;
+    if is_formula(f) {
+        Ok(n)
     } else {
-        6
+        Err(Refusal::Formula)
     }
 }

@@ -1,11 +1,8 @@
 -- `left` meets its contract: each turn is one code of the definition.
-use Prim.Native.Nat.{◌-◌}
-use lib.ListN.{length}
+use Rattle.std.proofs.Common.{map, length}
+use Rattle.formula_codes.specs.Formula.{slices}
 use Rattle.formula_codes.specs.Steps.{Counting}
 use Rattle.formula_codes.proofs.left.Given as goal
 
-abbrev pub invariant-loop-j : goal.invariant-loop-j
-invariant-loop-j l = Counting l.lens l.codes l.d l.j
-
-abbrev pub decreases-loop-j : goal.decreases-loop-j
-decreases-loop-j l = length l.codes - l.j
+abbrev pub invariant-loop-code : goal.invariant-loop-code
+invariant-loop-code l = Counting (map length (slices l.f)) l.code-items l.d l.code-index
