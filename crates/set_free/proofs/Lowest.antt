@@ -11,11 +11,14 @@ use lib.ListN.{length, take, drop}
 use Rattle.util.specs.Outcome.{Settled, settled}
 use Rattle.util.specs.Word.{bit, places, Rising}
 use Rattle.util.proofs.Places.{places_same, places_none, places_in_lem, in_places, places_rising}
-use Rattle.store.specs.Answer.{found_paper, gives, refuses, refusal_number, value_of}
+use Rattle.store.specs.Answer.{number_paper, tested, gives, refuses, refusal_number, value_of}
 use Rattle.store.specs.Build.{layer0}
 use Rattle.store.specs.Layout.{max_cap, cap, is_store, StoreOf, start_from}
 use Rattle.store.specs.Word.{on, Member, Words64}
-use Rattle.store.specs.declared.Found.TheVariants.{At, Refused}
+use Rattle.store.specs.declared.Refusal.{Refusal}
+use Rattle.store.specs.declared.Refusal.TheVariants.{Full}
+use Rattle.std.specs.Prelude.{Result, Ok, Err, IsErrAnd}
+use Rattle.store.proofs.Exits.{no_store_out}
 use Rattle.store.proofs.Build.{word-layer0}
 use Rattle.store.proofs.Ends.{lent0}
 use Rattle.store.proofs.Geometry.{is_store_lem, store_is, room_closed}
@@ -48,8 +51,8 @@ pub no_search : (s : List ℕ) → is_store s ≡ false → first_free_of s ≡ 
 unfolding first_free_of
 no_search s h = rw h
 
-pub free_2 : (s : List ℕ) → is_store s ≡ false → Settled found_paper (first_free_of s) (Refused 2) tt
-free_2 s h = settled (no_search s h)
+pub free_2 : (s : List ℕ) {r q : Result ℕ Refusal} {x : Refusal} → r ≡ tested s → r ≡ Err x → IsErrAnd q (λ y. y ≡ x) → Settled number_paper (first_free_of s) q tt
+free_2 s e h o = let p = no_store_out s e h o in rw p.1 (settled (no_search s p.0))
 
 -- ---- what the answer says of the members
 
@@ -154,8 +157,8 @@ module _ (s : List ℕ) (is : StoreOf (cap s) s) where
 -- ---- the search, by the lowest
 
 module _ {N : ℕ} {s : List ℕ} (z : StoreOf N s) {r : ℕ} (e : r ≡ lowest_of s) where
-  pub free_at_lem : r < N → Settled found_paper (first_free_of s) (At r) tt
+  pub free_at_lem : r < N → Settled number_paper (first_free_of s) (Ok r) tt
   free_at_lem l = settled (lowest_found s (store_is (is_store_lem z)) (omega (arith, e, z.names)) ∙ ap (λ (i : ℕ). gives i tt) (sym e))
 
-  pub free_12 : N ≤ r → Settled found_paper (first_free_of s) (Refused 12) tt
+  pub free_12 : N ≤ r → Settled number_paper (first_free_of s) (Err Full) tt
   free_12 l = settled (lowest_none s (store_is (is_store_lem z)) (omega (arith, e, z.names)))

@@ -3,12 +3,12 @@
 
 ghost use Rattle.std.specs.Prelude.{◌≡◌, ◌+◌, ◌^◌, ◌≤◌, ◌<◌, min, length};
 ghost use Rattle.util.specs.Outcome.{Settled};
-ghost use Rattle.store.specs.Answer.{found_paper};
+ghost use Rattle.store.specs.Answer.{number_paper};
 ghost use Rattle.store.specs.Layout.{max_cap};
 ghost use Rattle.set_free.specs.Calls.{first_or, lowest_of, first_free_of};
 ghost use Rattle.set_free.specs.Steps.{full, FullIn, Skipped, Passed, Opened, Small, free_in};
 
-use store::Found;
+use store::Refusal;
 
 // A word with every bit set.
 const FULL: u64 = 18446744073709551615;
@@ -103,25 +103,22 @@ fn search(layer: &[u64], n: usize, first: usize) -> u32
 pub fn lowest_free(store: &[u64]) -> u32
     ensures { result ≡ lowest_of store.now }
 {
-    let n = store::capacity(store);
-    if n == 0 {
+    let Ok(n) = store::capacity(store) else {
         return 0;
-    }
+    };
     let a = store::start(store.len(), n, 0);
     search(&store[a..], n, SEARCH_START)
 }
 
 // The lowest id from 1 on and below the capacity that is not a member.
-pub fn first_free(store: &[u64]) -> Found
-    ensures { Settled found_paper (first_free_of store.now) result tt }
+pub fn first_free(store: &[u64]) -> Result<u32, Refusal>
+    ensures { Settled number_paper (first_free_of store.now) result tt }
 {
-    let n = store::capacity(store);
-    if n == 0 {
-        return Found::Refused(2);
-    }
+    let n = store::capacity(store)?;
     let id = lowest_free(store);
     if (id as usize) < n {
-        return Found::At(id);
+        Ok(id)
+    } else {
+        Err(Refusal::Full)
     }
-    Found::Refused(12)
 }
