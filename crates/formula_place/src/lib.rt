@@ -7,6 +7,7 @@ ghost use Rattle.formula_codes.specs.Tree.{existing};
 ghost use Rattle.formula_place.specs.Spots.{words_in, places_in, place_of};
 
 // The words of layer k.
+#[tactic(auto, using(crate::proofs::Spots::layers))]
 fn words_in(n: usize, k: usize) -> usize
     requires { k ≤ top_most }
     ensures { result ≡ words_in n k }
@@ -14,11 +15,38 @@ fn words_in(n: usize, k: usize) -> usize
     store::end(n, k) - store::end(n, k + 1)
 }
 
-// Where word i of layer k stands in a store of capacity n; past the layer's end, where the store ends.
-fn place(n: usize, k: usize, i: usize) -> usize
-    requires { k ≤ top_most }
-    ensures { result ≡ place_of n k i }
+// The places of a layer: ids, or the words of the layer below it. Layers count modulo their number.
+#[tactic(auto, using(crate::proofs::Spots::layers))]
+fn places(n: usize, layer: usize) -> usize
+    ensures { result ≡ places_in n (layer % suc top_most) }
 {
+    match layer % store::LAYERS {
+        0 => n,
+        k => words_in(n, k - 1),
+    }
+}
+
+// The bits of word i that exist in a layer of so many places.
+#[tactic(auto, using(crate::proofs::Spots::exist))]
+fn existing(places: usize, i: usize) -> u64
+    ensures { result ≡ existing places i }
+{
+    let whole = places / 64;
+    if i < whole {
+        u64::MAX
+    } else if whole < i {
+        0
+    } else {
+        (1 << (places % 64)) - 1
+    }
+}
+
+// Where word i of a layer stands in a store of capacity n; past the layer's end, where the store ends. Layers count modulo their number.
+#[tactic(auto, using(crate::proofs::Spots::layers))]
+pub fn spot(n: usize, layer: usize, i: usize) -> usize
+    ensures { result ≡ place_of n (layer % suc top_most) i }
+{
+    let k = layer % store::LAYERS;
     if i < words_in(n, k) {
         store::end(n, k + 1) + i
     } else {
@@ -26,41 +54,13 @@ fn place(n: usize, k: usize, i: usize) -> usize
     }
 }
 
-// The places of layer k.
-fn places(n: usize, k: usize) -> usize
-    requires { k ≤ top_most }
-    ensures { result ≡ places_in n k }
-{
-    if k == 0 { n } else { words_in(n, k - 1) }
-}
-
-// The bits of word i that exist in a layer of so many places.
-fn existing(places: usize, i: usize) -> u64
-    ensures { result ≡ existing places i }
-{
-    let whole = places / 64;
-    if i < whole {
-        return 18446744073709551615;
-    }
-    if whole < i {
-        return 0;
-    }
-    (1u64 << (places % 64)) - 1
-}
-
-// Where word i of a layer stands in a store of capacity n. Layers count modulo their number.
-pub fn spot(n: usize, layer: usize, i: usize) -> usize
-    ensures { result ≡ place_of n (layer % suc top_most) i }
-{
-    place(n, layer % store::LAYERS, i)
-}
-
 // The bits of word i of a layer that exist in a store of capacity n, or 0 where nothing looks at them. Layers count modulo their number.
 pub fn cut(looks: bool, n: usize, layer: usize, i: usize) -> u64
     ensures { result ≡ cond looks (existing (places_in n (layer % suc top_most)) i) 0 }
 {
     if looks {
-        return existing(places(n, layer % store::LAYERS), i);
+        existing(places(n, layer), i)
+    } else {
+        0
     }
-    0
 }
