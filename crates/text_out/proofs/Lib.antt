@@ -1,2 +1,2 @@
-pub mod Out
+pub mod Puts
 pub mod Spelling
