@@ -1,33 +1,37 @@
 -- Lines joined from pieces of input.
-use Rattle.std.specs.Prelude.{cond, List, [], ◌∷◌, ℕ, ◌+◌, min, max, eqb, ltb, length, drop, set}
+use Rattle.std.specs.Prelude.{cond, List, [], ◌∷◌, ℕ, ◌+◌, min, max, eqb, ltb, length, drop, set, Option, Some, None}
 use Rattle.std.proofs.lemmas.List.Edits.{sets}
 use Rattle.text_out.specs.Out.{Held, holding}
-use Rattle.text_in.specs.declared.Gathered.{Gathered}
+use Rattle.text_in.specs.declared.Line.{Line}
 
--- a byte behind the first `len` of a line, if it fits
-unfoldable pub keep_of : List ℕ → ℕ → ℕ → Held
-keep_of line len b = cond (ltb len (length line)) (holding (set line len b) (len + 1)) (holding line len)
+-- what a line's buffer holds
+abbrev pub held_line : Line → Held
+held_line line = holding line.buf.now line.len
+
+-- a byte behind the line, if it fits
+unfoldable pub keep_of : Held → ℕ → Held
+keep_of h b = cond (ltb h.at (length h.buf)) (holding (set h.buf h.at b) (h.at + 1)) h
 
 -- the bytes in front of the first newline
 unfoldable pub up_to : List ℕ → List ℕ
 up_to [] = []
 up_to (b ∷ bs) = cond (eqb b 10) [] (b ∷ up_to bs)
 
--- the lent line and the answer
+-- the line, and the place where the next one starts
 pub record Taken : Type 0 where
-  pub line : List ℕ
-  pub answer : Gathered
+  pub line : Held
+  pub next : Option ℕ
 
-abbrev pub taken_text : List ℕ → Gathered → Taken
-taken_text line answer = record { line = line; answer = answer }
+abbrev pub taken_text : Held → Option ℕ → Taken
+taken_text line next = record { line = line; next = next }
 
 -- What was taken ends at place `end` of a piece of `size` bytes: at a newline, and the next line starts behind it, or at the piece's end.
-unfoldable pub ends_at : ℕ → List ℕ → ℕ → ℕ → Taken
-ends_at size line len end =
-    taken_text line (record { len = len; next = cond (ltb end size) (end + 1) end; ended = ltb end size })
+unfoldable pub ends_at : ℕ → Held → ℕ → Taken
+ends_at size line end = taken_text line (cond (ltb end size) (Some (end + 1)) None)
 
--- The bytes of `piece` from `from` on that stand in front of a newline go into `line` behind its first `len` bytes, as many as fit.
-unfoldable pub gather_of : List ℕ → ℕ → List ℕ → ℕ → Taken
-gather_of line len piece from =
+-- The bytes of `piece` from `from` on that stand in front of a newline go into the buffer behind the line, as many as fit.
+unfoldable pub gather_of : Held → List ℕ → ℕ → Taken
+gather_of h piece from =
     let run = up_to (drop from piece) in
-    ends_at (length piece) (sets line len run) (max len (min (len + length run) (length line))) (from + length run)
+    ends_at (length piece)
+    (holding (sets h.buf h.at run) (max h.at (min (h.at + length run) (length h.buf)))) (from + length run)

@@ -1,100 +1,74 @@
 // What the programs read: lines joined from pieces of input, and decimal numbers in them.
 #![tactic(auto)]
 
-ghost use Rattle.std.specs.Prelude.{◌≡◌};
-ghost use Rattle.text_out.specs.Out.{holding};
-ghost use Rattle.text_in.specs.Line.{keep_of, taken_text, gather_of};
-ghost use Rattle.text_in.specs.Number.{digit_of, number_of};
+ghost use Rattle.std.specs.Prelude.{◌≡◌, slice_get, take, drop};
+ghost use Rattle.text_in.specs.Line.{held_line, keep_of, taken_text, gather_of};
+ghost use Rattle.text_in.specs.Number.{digits, number_of};
 
-// How long the line is now, where the piece goes on, and whether a newline ended the line.
-#[derive(Clone, Copy)]
-pub struct Gathered {
+// A line as it is joined: the first `len` bytes of a lent buffer.
+#[derive(Drop)]
+pub struct Line<'a> {
+    pub buf: &'a mut [u8],
     pub len: usize,
-    pub next: usize,
-    pub ended: bool,
 }
 
-// Puts a byte behind the `len` bytes of a line, if it fits, and answers how long the line is now.
-fn keep(line: &mut [u8], len: usize, b: u8) -> usize
-    ensures { holding line.new result ≡ keep_of line.old len b }
-{
-    if len < line.len() {
-        line[len] = b;
-        return len + 1;
+impl Line<'_> {
+    // The line so far: the whole buffer, if it has fewer bytes than `len`.
+    pub fn bytes(&self) -> &[u8]
+        ensures { result.now ≡ take self.now.len self.now.buf.now }
+    {
+        let n = self.len.min(self.buf.len());
+        &self.buf[..n]
     }
-    len
-}
 
-// Takes the bytes of `piece` from `from` on, up to and without a newline, into `line` behind its first `len` bytes. Those that do not
-// fit are dropped, so a line that fills the slice may have been longer.
-pub fn gather_line(line: &mut [u8], len: usize, piece: &[u8], from: usize) -> Gathered
-    ensures { taken_text line.new result ≡ gather_of line.old len piece.now from }
-{
-    let mut n = len;
-    let mut i = from;
-    while i < piece.len() {
-        let b = piece[i];
-        i += 1;
-        if b == b'\n' {
-            return Gathered {
-                len: n,
-                next: i,
-                ended: true,
-            };
+    // Puts a byte behind the line, if it fits.
+    fn keep(&mut self, b: u8)
+        ensures buffer { self.new.buf.ghost_name ≡ self.old.buf.ghost_name }
+        ensures kept { held_line self.new ≡ keep_of (held_line self.old) b }
+    {
+        if self.len < self.buf.len() {
+            self.buf[self.len] = b;
+            self.len += 1;
         }
-        n = keep(line, n, b);
     }
-    Gathered {
-        len: n,
-        next: i,
-        ended: false,
+
+    // Takes the bytes of `piece` from `from` on, up to and without a newline, behind the line, and answers where the next line starts, if
+    // a newline ended this one. Bytes that do not fit are dropped, so a line that fills the buffer may have been longer.
+    #[tactic(auto, using(crate::proofs::Lines::gathers_line))]
+    pub fn gather(&mut self, piece: &[u8], from: usize) -> Option<usize>
+        ensures buffer { self.new.buf.ghost_name ≡ self.old.buf.ghost_name }
+        ensures taken { taken_text (held_line self.new) result ≡ gather_of (held_line self.old) piece.now from }
+    {
+        for i in from..piece.len() {
+            let b = piece[i];
+            if b == b'\n' {
+                return Some(i + 1);
+            }
+            self.keep(b);
+        }
+        None
     }
 }
 
-// A decimal number with the place after it, or none.
-#[derive(Clone, Copy)]
-pub enum Decimal {
-    Is(u64, usize),
-    Nothing,
-}
-
-// What a byte counts as a digit, and 10 if it is none.
-fn digit(b: u8) -> u64
-    ensures { result ≡ digit_of b }
+// The digit that stands at a place, if one does.
+fn digit_at(line: &[u8], at: usize) -> Option<u32>
+    ensures { result ≡ slice_get (digits (drop at line.now)) 0 }
 {
-    if b < b'0' {
-        return 10;
-    }
-    if b > b'9' {
-        return 10;
-    }
-    (b - b'0') as u64
+    char::from(*line.get(at)?).to_digit(10)
 }
 
-// The decimal number that starts at `from`, with the place after its last digit; nothing where there is no digit or it is more than
-// `most`.
-pub fn number(line: &[u8], from: usize, most: u64) -> Decimal
+// The decimal number that starts at `from`, with the place after its last digit; none where there is no digit or it is more than `most`.
+pub fn number(line: &[u8], from: usize, most: u64) -> Option<(u64, usize)>
     ensures { result ≡ number_of line.now from most }
 {
     let mut value = 0u64;
-    let mut at = from;
-    while at < line.len() {
-        let d = digit(line[at]);
-        if d > 9 {
-            break;
+    let mut end = from;
+    while let Some(d) = digit_at(line, end) {
+        value = value.checked_mul(10)?.checked_add(u64::from(d))?;
+        if value > most {
+            return None;
         }
-        if d > most {
-            return Decimal::Nothing;
-        }
-        if value > (most - d) / 10 {
-            return Decimal::Nothing;
-        }
-        value = value * 10 + d;
-        at += 1;
+        end += 1;
     }
-    if from < at {
-        Decimal::Is(value, at)
-    } else {
-        Decimal::Nothing
-    }
+    (from < end).then_some((value, end))
 }

@@ -1,44 +1,37 @@
-use mathlib.Core.List.{[]}
-use mathlib.Core.Path.{◌≡◌}
-use native.Mathlib.Omega.{arith}
-use borrow.Author.Rules.{rules}
-use lib.ListN.{drop}
-use Rattle.text_in.specs.Number.{digits}
-use Rattle.text_in.proofs.Digits.{reads_some, reads_nothing, reads_more, reads_over, digits_end, digits_stop}
+use Rattle.std.proofs.Common.{◌≡◌, ◌∙◌, ◌+◌, ◌*◌, arith, rules}
+use Rattle.text_in.proofs.Digits.{digits_none, digits_some, reads_all, reads_more, reads_over}
 use Rattle.text_in.proofs.number.Goals as goal
-use Rattle.text_in.proofs.number.Goals.{else-loop-at-test, then-loop-at-test+then-d-gt9}
 
-pub returns-then-d-most : goal.returns-then-d-most
-returns-then-d-most c =
-    reads_over c.loop-at.invariant (search rules) _
-    c.digit-d.ensures (search rules) (search rules)
+pub returns-in_err-checked_mul : goal.returns-in_err-checked_mul
+returns-in_err-checked_mul c =
+    let it = digits_some c.args.line.now c.loop-d.end c.in-Some.ensures in
+    c.from_residual.ensures ∙ reads_over c.loop-d.invariant it (omega (arith, c.in_err-checked_mul.ensures))
+
+pub returns-in_err-value : goal.returns-in_err-value
+returns-in_err-value c =
+    let it = digits_some c.args.line.now c.loop-d.end c.in-Some.ensures in
+    c.from_residual-in_err-value.ensures
+    ∙ reads_over c.loop-d.invariant it (omega (arith, c.in_ok-checked_mul.ensures.1, c.from.ensures, c.in_err-value.ensures))
 
 pub returns-then-value-most : goal.returns-then-value-most
 returns-then-value-most c =
-    reads_over c.loop-at.invariant (search rules) _
-    c.digit-d.ensures (search rules) (search rules)
+    let it = digits_some c.args.line.now c.loop-d.end c.in-Some.ensures in
+    reads_over c.loop-d.invariant it (omega (arith, c.in_ok-checked_mul.ensures.1, c.from.ensures, c.in_ok-value.ensures.1))
 
-pub loop-at-preserved : goal.loop-at-preserved
-loop-at-preserved c =
-    reads_more c.loop-at.invariant (search rules) _
-    c.digit-d.ensures (search rules) (search rules)
+pub overflow_add-end : goal.overflow_add-end
+overflow_add-end c = let it = digits_some c.args.line.now c.loop-d.end c.in-Some.ensures in search rules
 
-pub returns-then-from-at : goal.returns-then-from-at
-returns-then-from-at c =
-    -- the loop ends at the line's end or at a byte that is no digit
-    let no_digit : digits (drop c.loop-at.at c.args.line.now) ≡ [] =
-    elim c.loop-at-test.branch [
-      | else-loop-at-test w ↦ digits_end c.args.line.now c.loop-at.at (omega arith)
-      | then-loop-at-test+then-d-gt9 w ↦ digits_stop c.args.line.now c.loop-at.at (omega arith) (omega (arith, w.digit-d.ensures, w.if-d-gt9.true))
-    ] in
-    reads_some c.loop-at.invariant no_digit c.if-from-at.true
+pub loop-d-smaller : goal.loop-d-smaller
+loop-d-smaller c = let it = digits_some c.args.line.now c.loop-d.end c.in-Some.ensures in omega arith
 
-pub returns-else-from-at : goal.returns-else-from-at
-returns-else-from-at c =
-    -- the loop ends at the line's end or at a byte that is no digit
-    let no_digit : digits (drop c.loop-at.at c.args.line.now) ≡ [] =
-    elim c.loop-at-test.branch [
-      | else-loop-at-test w ↦ digits_end c.args.line.now c.loop-at.at (omega arith)
-      | then-loop-at-test+then-d-gt9 w ↦ digits_stop c.args.line.now c.loop-at.at (omega arith) (omega (arith, w.digit-d.ensures, w.if-d-gt9.true))
-    ] in
-    reads_nothing c.loop-at.invariant no_digit c.if-from-at.false
+pub loop-d-preserved : goal.loop-d-preserved
+loop-d-preserved c =
+    let it = digits_some c.args.line.now c.loop-d.end c.in-Some.ensures in
+    let value_is : c.in_ok-value.value ≡ c.loop-d.value * 10 + c.in-Some.d =
+    omega (arith, c.in_ok-checked_mul.ensures.1, c.from.ensures, c.in_ok-value.ensures.1) in
+    rw value_is (reads_more c.loop-d.invariant it (omega arith))
+
+pub returns : goal.returns
+returns c =
+    c.then_some.ensures
+    ∙ reads_all c.loop-d.invariant (digits_none c.args.line.now c.loop-d.end c.in_default.ensures)
