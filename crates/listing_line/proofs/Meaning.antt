@@ -6,7 +6,7 @@ use mathlib.Core.Path.{◌≡◌, refl, sym, ap, ◌∙◌}
 use Prim.Native.Nat.{ℕ, zero, suc, ◌+◌, ◌/◌, ◌%◌, ◌^◌, ◌≤◌, ◌<◌}
 use native.Mathlib.Decide.{dec_lt}
 use native.Mathlib.Omega.{arith}
-use borrow.Author.Tests.{lt-ltb, le-ltb, eqb-true}
+use borrow.Author.Tests.{eqb-true}
 use lib.Dec.{eqb}
 use lib.ListN.{length, take, get_or, length-append, length-take}
 use lib.Seq.{take_all}
@@ -18,20 +18,11 @@ use Rattle.listing_line.specs.Line.{id_of, with_id, command_of}
 use Rattle.listing_line.specs.Spells.{Digit, Spells, Means}
 use Rattle.listing_line.specs.declared.Command.{Command}
 use Rattle.listing_line.specs.declared.Command.TheVariants.{Add, Remove, Contains, List as Members, Unknown}
-use Rattle.listing_line.specs.declared.Id.{Id}
-use Rattle.listing_line.specs.declared.Id.TheVariants.{At, Bad}
-use Rattle.listing_line.proofs.Parsing.{id_long, id_none, id_great, id-more, id_is, with_a, with_r, with_c, blank}
+use Rattle.std.specs.Prelude.{Option, Some, None}
+use Rattle.listing_line.proofs.Parsing.{id_long, id_none, id_great, id-more, id_is, digit_first, no_first, no_more}
 use Rattle.listing_line.proofs.Spelled.{as_spelled}
 
 -- ---- decimal digits
-
-digit_first : (b : ℕ) (bs : List ℕ) → digit_of b < 10 → digits (b ∷ bs) ≡ digit_of b ∷ digits bs
-unfolding digits
-digit_first b bs h = simp (lt-ltb _ _ h)
-
-no_first : (b : ℕ) (bs : List ℕ) → 10 ≤ digit_of b → digits (b ∷ bs) ≡ []
-unfolding digits
-no_first b bs h = simp (le-ltb _ _ h)
 
 is_digit : (b : ℕ) → digit_of b < 10 → Digit b
 is_digit b h = go (dec_lt b 48) (dec_lt 57 b)
@@ -40,15 +31,6 @@ is_digit b h = go (dec_lt b 48) (dec_lt 57 b)
     go (yes l) t = absurd (omega (arith, digit_low b l))
     go (no l) (yes t) = absurd (omega (arith, digit_high b t))
     go (no l) (no t) = (omega arith, omega arith)
-
-no_more : (bs : List ℕ) → length (digits bs) ≤ length bs
-unfolding digits
-no_more [] = omega arith
-no_more (b ∷ bs) = go (no_more bs) (dec_lt (digit_of b) 10)
-  where
-    go : length (digits bs) ≤ length bs → Dec (digit_of b < 10) → length (digits (b ∷ bs)) ≤ length (b ∷ bs)
-    go rest (yes d) = omega (arith, ap length (digit_first b bs d))
-    go rest (no d) = omega (arith, ap length (no_first b bs (omega arith)))
 
 -- digits to the end: every byte is one
 all_digits : (bs : List ℕ) → ((k : ℕ) → k < length bs → Digit (get_or bs k 0)) → length (digits bs) ≡ length bs
@@ -72,13 +54,13 @@ each_digit (b ∷ bs) e k l = go (each_digit bs) k l (dec_lt (digit_of b) 10)
 -- ---- which lines are commands
 
 -- A line that spells a letter and an id is that letter's command.
-pub meant : {letter i : ℕ} {line : List ℕ} → Spells letter i line → command_of line ≡ with_id letter (At i)
+pub meant : {letter i : ℕ} {line : List ℕ} → Spells letter i line → command_of line ≡ with_id letter (Some i)
+unfolding command_of
 meant {letter} {i} s =
     let all = all_digits s.bytes s.each in
     ap command_of s.line_is
-    ∙ sym (blank (letter ∷ 32 ∷ s.bytes) refl)
     ∙ ap (with_id letter)
-    (id_is s.bytes s.few (λ z. omega (arith, s.some)) (omega (arith, s.value, s.fits)) (omega arith) ∙ ap At s.value)
+    (id_is s.bytes s.few (λ z. omega (arith, s.some)) (omega (arith, s.value, s.fits)) (omega arith) ∙ ap Some s.value)
 
 -- and no other line is that command
 pick : (line : List ℕ) (a b : Command) (t : Bool) → (t ≡ true → Means line a) → Means line b → Means line (cond t a b)
@@ -86,11 +68,11 @@ pick line a b true f g = f refl
 pick line a b false f g = g
 
 module _ (letter : ℕ) (bs : List ℕ) where
-  none : {x : Id} → x ≡ Bad → Means (letter ∷ 32 ∷ bs) (with_id letter x)
+  none : {x : Option ℕ} → x ≡ None → Means (letter ∷ 32 ∷ bs) (with_id letter x)
   unfolding with_id
   none e = rw e tt
 
-  one : {x : Id} {i : ℕ} → x ≡ At i → ((l : ℕ) → letter ≡ l → Spells l i (letter ∷ 32 ∷ bs)) → Means (letter ∷ 32 ∷ bs) (with_id letter x)
+  one : {x : Option ℕ} {i : ℕ} → x ≡ Some i → ((l : ℕ) → letter ≡ l → Spells l i (letter ∷ 32 ∷ bs)) → Means (letter ∷ 32 ∷ bs) (with_id letter x)
   unfolding with_id
   one e s =
       rw e
@@ -156,25 +138,28 @@ short_spelling (suc k) (suc m) n h = go (short_spelling k m (n / 10) (omega (ari
         let e = ap length (spelled-more n (suc k) (omega arith)) ∙ length-append (spelled (suc k) (n / 10)) ((48 + n % 10) ∷ []) in
         (omega arith, omega arith)
 
-spelled-id : (i : ℕ) → i < 2 ^ 32 → id_of (decimal_of i) ≡ At i
+spelled-id : (i : ℕ) → i < 2 ^ 32 → id_of (decimal_of i) ≡ Some i
 unfolding digits value_after
 spelled-id i h =
     let read = as_spelled 19 i [] (omega arith) in
     let short = short_spelling 19 9 i (omega arith) in
     let value : value_after 0 (digits (decimal_of i)) ≡ i = rw append-nil at read.0 in
     let size : length (digits (decimal_of i)) ≡ length (decimal_of i) = omega (arith, rw append-nil at read.1) in
-    id_is (decimal_of i) short.1 (λ z. omega arith) (omega arith) (omega arith) ∙ ap At value
+    id_is (decimal_of i) short.1 (λ z. omega arith) (omega arith) (omega arith) ∙ ap Some value
 
 -- READ AS PRINTED. A letter, a blank and the spelling of an id below 2^32 is that letter's command.
 module _ (i : ℕ) (h : i < 2 ^ 32) where
   pub add_read : command_of (97 ∷ 32 ∷ decimal_of i) ≡ Add i
-  add_read = sym (blank (97 ∷ 32 ∷ decimal_of i) refl) ∙ ap (with_id 97) (spelled-id i h) ∙ sym (with_a 97 i refl)
+  unfolding command_of with_id
+  add_read = ap (with_id 97) (spelled-id i h)
 
   pub remove_read : command_of (114 ∷ 32 ∷ decimal_of i) ≡ Remove i
-  remove_read = sym (blank (114 ∷ 32 ∷ decimal_of i) refl) ∙ ap (with_id 114) (spelled-id i h) ∙ sym (with_r 114 i refl)
+  unfolding command_of with_id
+  remove_read = ap (with_id 114) (spelled-id i h)
 
   pub contains_read : command_of (99 ∷ 32 ∷ decimal_of i) ≡ Contains i
-  contains_read = sym (blank (99 ∷ 32 ∷ decimal_of i) refl) ∙ ap (with_id 99) (spelled-id i h) ∙ sym (with_c 99 i refl)
+  unfolding command_of with_id
+  contains_read = ap (with_id 99) (spelled-id i h)
 
 -- ---- 13 bytes decide
 
@@ -187,7 +172,7 @@ pub long_line : (line : List ℕ) → 12 < length line → command_of line ≡ U
 unfolding command_of with_id
 long_line [] h = absurd (omega arith)
 long_line (b ∷ []) h = absurd (omega arith)
-long_line (letter ∷ b ∷ bs) h = let e : id_of bs ≡ Bad = id_long bs (omega arith) in rw e (same-both (eqb b 32))
+long_line (letter ∷ b ∷ bs) h = let e : id_of bs ≡ None = id_long bs (omega arith) in rw e (same-both (eqb b 32))
 
 -- so the buffer of 13 bytes loses nothing
 pub cut : (line : List ℕ) → command_of (take 13 line) ≡ command_of line

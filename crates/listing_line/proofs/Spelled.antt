@@ -11,7 +11,7 @@ use lib.Seq.{drop-append_seam}
 use Rattle.text_out.specs.Out.{spelled, decimal_of}
 use Rattle.text_out.proofs.Spelling.{next_power, spelled-one, spelled-more}
 use Rattle.text_in.specs.Number.{digit_of, digits, value_after, number_of}
-use Rattle.text_in.specs.declared.Decimal.TheVariants.{Is, Nothing}
+use Rattle.std.specs.Prelude.{Some, None}
 
 -- A digit counts ten times what it would one place further on: a number in front counts as many tens as there are digits behind it.
 pub value_front : (v : ℕ) (ds : List ℕ) → value_after v ds ≡ v * 10 ^ length ds + value_after 0 ds
@@ -88,7 +88,7 @@ some_spelled k n = go (dec_lt n 10)
 
 -- READ BACK. What was put of a number is read as that number, with the place behind it, where no digit follows.
 pub read_back_lem : (front behind : List ℕ) (n most : ℕ) → n < 10 ^ 20 → n ≤ most → digits behind ≡ []
-    → number_of (front ++ (decimal_of n ++ behind)) (length front) most ≡ Is n (length front + length (decimal_of n))
+    → number_of (front ++ (decimal_of n ++ behind)) (length front) most ≡ Some (n, length front + length (decimal_of n))
 unfolding number_of value_after
 read_back_lem front behind n most h l none =
     let read = as_spelled 19 n behind h in
@@ -102,8 +102,8 @@ read_back_lem front behind n most h l none =
       le-ltb _ _ l,
     )
 
--- the number at place 2 of `x 0042 7` is 42, and ends at place 6; one past 64 bits is nothing
-pub sample_numbers : (number_of (120 ∷ 32 ∷ 48 ∷ 48 ∷ 52 ∷ 50 ∷ 32 ∷ 55 ∷ []) 2 18446744073709551615 ≡ Is 42 6)
-    × (number_of (decimal_of 18446744073709551616) 0 18446744073709551615 ≡ Nothing)
+-- the number at place 2 of `x 0042 7` is 42, and ends at place 6; one past 64 bits is none
+pub sample_numbers : (number_of (120 ∷ 32 ∷ 48 ∷ 48 ∷ 52 ∷ 50 ∷ 32 ∷ 55 ∷ []) 2 18446744073709551615 ≡ Some (42, 6))
+    × (number_of (decimal_of 18446744073709551616) 0 18446744073709551615 ≡ None)
 unfolding number_of digits digit_of value_after spelled
 sample_numbers = (refl, refl)

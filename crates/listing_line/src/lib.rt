@@ -1,10 +1,8 @@
 // What a line of the listing program means. Which lines are commands, both ways, and that a number that was put is read back, are theorems.
 #![tactic(auto)]
 
-ghost use Rattle.std.specs.Prelude.{◌≡◌, take, drop, get_or};
+ghost use Rattle.std.specs.Prelude.{◌≡◌};
 ghost use Rattle.listing_line.specs.Line.{id_of, with_id, command_of};
-
-use text_in::Decimal;
 
 #[derive(Clone, Copy)]
 pub enum Command {
@@ -15,74 +13,39 @@ pub enum Command {
     Unknown,
 }
 
-// What stands where an id is to stand.
-#[derive(Clone, Copy)]
-pub enum Id {
-    At(u32),
-    Bad,
-}
-
-// The byte at place `at`, 0 past the end.
-fn byte(line: &[u8], at: usize) -> u8
-    ensures { result ≡ get_or line.now at 0 }
+// The id that the bytes spell, if they spell one and nothing else.
+#[tactic(auto, unfolding(crate::specs::Line::id_of))]
+fn read_id(bytes: &[u8]) -> Option<u32>
+    ensures { result ≡ id_of bytes.now }
 {
-    if at < line.len() { line[at] } else { 0 }
-}
-
-// The id from place 2 to the line's end.
-#[tactic(auto, using(crate::proofs::Parsing::id_over))]
-fn read_id(line: &[u8]) -> Id
-    ensures { result ≡ id_of (drop 2 line.now) }
-{
-    if line.len() > 12 {
-        return Id::Bad;
+    if bytes.len() > 10 {
+        return None;
     }
-    let Decimal::Is(n, end) = text_in::number(line, 2, 4294967295) else {
-        return Id::Bad;
-    };
-    if end < line.len() {
-        return Id::Bad;
-    }
-    Id::At(n as u32)
+    let (n, end) = text_in::number(bytes, 0, 4294967295)?;
+    // a conversion that may fail would ask again what `number` has asked
+    (end == bytes.len()).then_some(n as u32)
 }
 
 // The command of a letter before an id.
-fn with_id(letter: u8, id: Id) -> Command
+#[tactic(auto, unfolding(crate::specs::Line::with_id))]
+fn with_id(letter: u8, id: Option<u32>) -> Command
     ensures { result ≡ with_id letter id }
 {
-    let Id::At(i) = id else {
-        return Command::Unknown;
-    };
-    match letter {
-        b'a' => Command::Add(i),
-        b'r' => Command::Remove(i),
-        b'c' => Command::Contains(i),
+    match (letter, id) {
+        (b'a', Some(i)) => Command::Add(i),
+        (b'r', Some(i)) => Command::Remove(i),
+        (b'c', Some(i)) => Command::Contains(i),
         _ => Command::Unknown,
     }
 }
 
+#[tactic(auto, unfolding(crate::specs::Line::command_of))]
 pub fn parse(line: &[u8]) -> Command
     ensures { result ≡ command_of line.now }
 {
-    let letter = byte(line, 0);
-    if line.len() == 1 {
-        if letter == b'w' {
-            return Command::List;
-        }
-        return Command::Unknown;
+    match line {
+        [b'w'] => Command::List,
+        [letter, b' ', id @ ..] => with_id(*letter, read_id(id)),
+        _ => Command::Unknown,
     }
-    if byte(line, 1) != b' ' {
-        return Command::Unknown;
-    }
-    with_id(letter, read_id(line))
-}
-
-// The first `len` bytes of the buffer are the line.
-pub fn command_in(line: &[u8], len: usize) -> Command
-    ensures { result ≡ command_of (take len line.now) }
-{
-    if len < line.len() {
-        return parse(&line[..len]);
-    }
-    parse(line)
 }

@@ -1,16 +1,13 @@
--- `read_id` meets its contract: what `text_in::number` reads from place 2 on, to the line's end.
-use native.Mathlib.Omega.{arith}
-use Rattle.listing_line.proofs.Parsing.{found, id_nothing, id-behind, id_whole}
+-- What `text_in::number` read, to the last byte.
+use Rattle.std.proofs.Common.{◌∙◌, arith, rules}
+use Rattle.listing_line.proofs.Parsing.{read_none, read_fits, read_some}
 use Rattle.listing_line.proofs.read_id.Goals as goal
 
-pub returns-in_default : goal.returns-in_default
-returns-in_default c = id_nothing _ (omega arith) c.in_default.ensures
+pub returns-in_err-n : goal.returns-in_err-n
+returns-in_err-n c = c.from_residual.ensures ∙ read_none c.args.bytes.now (omega arith) c.in_err-n.ensures
 
-pub returns-then-end-line : goal.returns-then-end-line
-returns-then-end-line c = id-behind _ (omega arith) (found _ c.in-Is.ensures) c.if-end-line.true
-
-pub overflow_cast-result : goal.overflow_cast-result
-overflow_cast-result c = omega (arith, (found _ c.in-Is.ensures).fits)
+pub overflow_cast-n : goal.overflow_cast-n
+overflow_cast-n c = let fits = read_fits c.args.bytes.now (omega arith) c.in_ok-n.ensures in search rules
 
 pub returns : goal.returns
-returns c = id_whole _ (omega arith) (found _ c.in-Is.ensures) c.if-end-line.false
+returns c = c.then_some.ensures ∙ read_some c.args.bytes.now (omega arith) c.in_ok-n.ensures
