@@ -1,3 +1,5 @@
 pub mod Walk
 pub mod Calls
 pub mod Steps
+pub mod Layers
+pub mod Checked

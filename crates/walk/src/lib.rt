@@ -3,12 +3,15 @@
 
 ghost use Rattle.std.specs.Prelude.{true, [], ◌∷◌, ◌≡◌, ℕ, suc, ◌+◌, ◌-◌, ◌%◌, ◌<◌, get_or};
 ghost use Rattle.util.specs.Outcome.{Settled};
-ghost use Rattle.store.specs.Answer.{judged};
 ghost use Rattle.store.specs.Layout.{top, top_most};
-ghost use Rattle.walk.specs.Calls.{step_paper, start_of, next_of, fits, Fine};
-ghost use Rattle.walk.specs.Steps.{refusal_of, refusal_on, parts, is_reading, Lowers, Sinks, Finishes};
-ghost use Rattle.walk.specs.Walk.{low_layer, kind, first_bit, place_at, handed, handled, start_at, next};
+ghost use Rattle.walk.specs.Calls.{step_paper, start_of, next_of, fits};
+ghost use Rattle.walk.specs.Steps.{refusal_of, refusal_on, is_reading, Lowers, Finishes};
+ghost use Rattle.walk.specs.Checked.{Checked};
+ghost use Rattle.walk.specs.Walk.{kind, first_bit, place_at, handed, handled, start_at};
 
+mod over;
+
+pub use over::{Layers, Ready, Words};
 use store::Refusal;
 pub use walk_masks::are_prefixes;
 
@@ -103,37 +106,6 @@ impl Cursor {
         walk_masks::wants(self.masks)
     }
 
-    // One word is read. Each layer has a way of its own, so that the masks stay in registers.
-    fn down(self, l2: &[u64], l1: &[u64], l0: &[u64]) -> Cursor
-        requires { is_reading (kind top_most self) ≡ true }
-        ensures { let ls = l0.now ∷ l1.now ∷ l2.now ∷ [] in
-            Lowers (parts ls) top_most (low_layer top_most self - 1) self result }
-    {
-        if self.masks[1] != 0 {
-            self.read(l0, 0)
-        } else if self.masks[2] != 0 {
-            self.read(l1, 1)
-        } else {
-            self.read(l2, 2)
-        }
-    }
-
-    // After so many reads, words of three layers are read until none is wanted or the budget is spent.
-    pub fn sink(self, l2: &[u64], l1: &[u64], l0: &[u64], spent: u64, budget: u64) -> Sunk
-        ensures { Sinks (parts (l0.now ∷ l1.now ∷ l2.now ∷ [])) top_most budget spent self result }
-    {
-        let mut c = self;
-        let mut reads = spent;
-        while c.wants() {
-            if budget <= reads {
-                break;
-            }
-            c = c.down(l2, l1, l0);
-            reads += 1;
-        }
-        Sunk { cursor: c, reads }
-    }
-
     // A step that leaves this cursor.
     fn step(self, reads: u64, answer: Next) -> Step
         ensures { result ≡ record { cursor = self; reads = reads; answer = answer } }
@@ -145,16 +117,17 @@ impl Cursor {
         }
     }
 
-    // What a walk on a store of n ids, none being no store, is refused for.
-    pub fn check(self, n: usize) -> Result<(), Refusal>
-        ensures { result ≡ judged (refusal_of n (fits (top n) self)) }
+    // Whether a walk on a store of n ids, none being no store, takes this cursor.
+    pub fn check(self, n: usize) -> Result<Ready, Refusal>
+        ensures { Checked (refusal_of n (fits (top n) self)) self result }
     {
-        walk_masks::check(n, self.prefix)
+        walk_masks::check(n, self.prefix)?;
+        Ok(Ready { cursor: self })
     }
 
-    // What a walk of a store is refused for.
-    pub fn check_on(self, store: &[u64]) -> Result<(), Refusal>
-        ensures { result ≡ judged (refusal_on store.now self) }
+    // Whether a walk of a store takes it.
+    pub fn check_on(self, store: &[u64]) -> Result<Ready, Refusal>
+        ensures { Checked (refusal_on store.now self) self result }
     {
         let n = store::capacity(store)?;
         self.check(n)
@@ -174,15 +147,6 @@ impl Cursor {
         }
     }
 
-    // Next over three layers, where nothing is refused.
-    fn run(self, l2: &[u64], l1: &[u64], l0: &[u64], budget: u64) -> Step
-        requires { Fine top_most self.prefix }
-        ensures { result ≡ next (parts (l0.now ∷ l1.now ∷ l2.now ∷ [])) top_most budget self }
-    {
-        let d = self.sink(l2, l1, l0, 0, budget);
-        d.cursor.finish(d.reads)
-    }
-
     // A walk's start: the top word is read. What the given cursor holds does not matter.
     pub fn start(self, store: &[u64]) -> Step
         ensures { Settled step_paper (start_of store.now self) result tt }
@@ -198,12 +162,7 @@ impl Cursor {
         ensures { Settled step_paper (next_of store.now self budget) result tt }
     {
         match self.check_on(store) {
-            Ok(()) => self.run(
-                set_layers::layer2_as_slice(store),
-                set_layers::layer1_as_slice(store),
-                set_layers::layer0_as_slice(store),
-                budget,
-            ),
+            Ok(ready) => ready.next(&Layers::of(store), budget),
             Err(no) => self.step(0, Next::Refused(no)),
         }
     }

@@ -14,16 +14,18 @@ use Rattle.store.specs.Answer.{numbered}
 use Rattle.store.specs.Layout.{top, cap, is_store, StoreOf, top_most}
 use Rattle.store.specs.Word.{word}
 use Rattle.store.proofs.Geometry.{is_store_lem}
-use Rattle.set_layers.specs.Calls.{layer_part}
+use Rattle.std.specs.Borrow.{Bor}
 use Rattle.walk.specs.Calls.{Fine, fits}
-use Rattle.walk.specs.Steps.{refusal_on, parts, is_reading, Going}
+use Rattle.walk.specs.Layers.{layer_words, LayersOf}
+use Rattle.walk.specs.Steps.{refusal_on, is_reading, Going}
 use Rattle.walk.specs.Walk.{Kind, low_layer, kind, first_bit, place_at, handed, more, next}
 use Rattle.walk.specs.Walk.Kind.{gives, reads, done}
 use Rattle.walk.specs.declared.Cursor.{Cursor}
+use Rattle.walk.specs.declared.over.Layers.{Layers}
 use Rattle.walk.specs.declared.Next.{Next}
 use Rattle.walk.specs.declared.Next.TheVariants.{Member, Paused, End, Refused}
 use Rattle.walk.specs.declared.Step.{Step}
-use Rattle.walk.proofs.Answers.{lent_words}
+use Rattle.walk.proofs.Answers.{was_taken, lent_words}
 use Rattle.walk.proofs.Cursors.{Low, low_found, low_stop, low_at, reading_low, resting_low, id_cut}
 use Rattle.walk.proofs.Turns.{next-gives, next_done, next-paused, next-same}
 use Rattle.walk_fill.specs.Fill.{Filled, after, stopped, go_on, fill_from, rest_of, batch, batch_paper, filled, fill_in}
@@ -215,17 +217,19 @@ module _ (lw lw' : ℕ → ℕ → ℕ) (t : ℕ) (same : (k i : ℕ) → k < t 
 
 -- ---- the call
 
-module _ {N : ℕ} {s : List ℕ} (z : StoreOf N s) (c : Cursor) where
-  pub fill_runs : (b m : ℕ) → fits (top N) c ≡ true → fill_from (word N s) (top N) m b c ≡ fill_in s c b m
-  unfolding fill_in
-  fill_runs b m h = sym (rw (is_store_lem z, z.names, h))
+pub fill_runs : {N : ℕ} {s : List ℕ} → StoreOf N s → (c : Cursor) (b m : ℕ) → fits (top N) c ≡ true → fill_from (word N s) (top N) m b c ≡ fill_in s c b m
+unfolding fill_in
+fill_runs z c b m h = sym (rw (is_store_lem z, z.names, h))
 
-  -- over the layers that are lent on
-  pub fill_lent : {l2 l1 l0 : List ℕ} → l2 ≡ layer_part s 2 → l1 ≡ layer_part s 1 → l0 ≡ layer_part s 0 → fits (top N) c ≡ true → (b m : ℕ)
-      → fill_from (parts (l0 ∷ l1 ∷ l2 ∷ [])) top_most m b c ≡ fill_in s c b m
-  fill_lent {l2} {l1} {l0} e2 e1 e0 h b m =
-      fill_same (parts (l0 ∷ l1 ∷ l2 ∷ [])) (word N s) top_most (lent_words z e2 e1 e0) m b c
-      ∙ ap (λ (t : ℕ). fill_from (word N s) t m b c) (sym (top_is N)) ∙ fill_runs b m h
+-- over the layers of a store, where nothing is refused
+pub fill_lent : (s : Bor (List ℕ)) (c : Cursor) {d : Cursor} {l : Layers} → (refusal_on s.now c ≡ 0) × (d ≡ c) → LayersOf s l → (b m : ℕ)
+    → fill_from (layer_words l) top_most m b d ≡ fill_in s.now c b m
+fill_lent s c {d} {l} h e b m =
+    let z = was_taken s.now c h.0 in
+    let lw = word (cap s.now) s.now in
+    ap (fill_from (layer_words l) top_most m b) h.1
+    ∙ fill_same (layer_words l) lw top_most (lent_words z.0 e) m b c
+    ∙ ap (λ (t : ℕ). fill_from lw t m b c) (sym (top_is (cap s.now))) ∙ fill_runs z.0 c b m z.1
 
 -- a refusal, by the number that was found
 pub fill_refused : (s : List ℕ) (c : Cursor) (b : ℕ) (out : List ℕ) {r : Batch} → refusal_on s c ≢ 0
