@@ -1,17 +1,24 @@
--- `put_reply` meets its contract.
-use mathlib.Core.Path.{sym, ap, ◌∙◌}
-use Rattle.text_out.specs.Out.{put_all_of}
-use Rattle.text_out.proofs.Out.{puts_behind}
-use Rattle.listing_printed.specs.Reply.{end_text}
-use Rattle.listing_printed.proofs.Printing.{reply_is}
+-- The pieces of the line, one behind the other.
+use Rattle.std.proofs.Common.{◌∙◌}
+use Rattle.text_out.proofs.Puts.{puts-append}
+use Rattle.listing_printed.specs.Reply.{end_text, reply_of}
 use Rattle.listing_printed.proofs.put_reply.Goals as goal
 
-pub returns-in-Is : goal.returns-in-Is
-returns-in-Is c =
-    puts_behind _ _ _ _ c.put_front-a.ensures (c.put_word.ensures ∙ ap (put_all_of _ _) (ap (end_text _) (sym c.in-Is.is)))
-    ∙ ap (put_all_of _ _) (sym (reply_is _ _ _))
+pub returns-in-Ok : goal.returns-in-Ok
+unfolding reply_of
+returns-in-Ok c =
+    rw c.in-Ok.is
+    (puts-append c.put_byte.ensures
+    (puts-append c.put_byte-2.ensures
+    (puts-append (rw c.from.ensures at c.put_number.ensures) (rw c.word.ensures at c.put_all.ensures))))
 
-pub returns-in-Refused : goal.returns-in-Refused
-returns-in-Refused c =
-    puts_behind _ _ _ _ c.put_front-a.ensures (c.put_refused.ensures ∙ ap (put_all_of _ _) (ap (end_text _) (sym c.in-Refused.is)))
-    ∙ ap (put_all_of _ _) (sym (reply_is _ _ _))
+pub returns-in-Err : goal.returns-in-Err
+unfolding reply_of end_text
+returns-in-Err c =
+    let number_is = c.from-in-Err-2.ensures ∙ c.from-in-Err.ensures in
+    rw c.in-Err.is
+    (puts-append c.put_byte.ensures
+    (puts-append c.put_byte-2.ensures
+    (puts-append (rw c.from.ensures at c.put_number.ensures)
+    (puts-append c.put_all-in-Err.ensures
+    (puts-append (rw number_is at c.put_number-in-Err.ensures) c.put_byte-in-Err.ensures)))))
