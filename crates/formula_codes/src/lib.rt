@@ -27,19 +27,21 @@ impl<'a> Formula<'a> {
     }
 }
 
+use ops_word::Op;
+
 // What a code makes of two words of layer k: 16 and, 17 or, 18 xor, and any other as 18. Above layer 0, xor is or. A match stays a branch, so that
 // no word waits for the code; in this order of the arms the compiled code asks for 16 first.
 pub fn joined(code: u8, k: usize, x: u64, y: u64) -> u64
     ensures { result ≡ joined code k x y }
 {
     match code {
-        17 => ops_word::combine(ops_word::OR, x, y),
-        16 => ops_word::combine(ops_word::AND, x, y),
+        17 => Op::Or.combine(x, y),
+        16 => Op::And.combine(x, y),
         _ => {
             if k == 0 {
-                return ops_word::combine(ops_word::XOR, x, y);
+                return Op::Xor.combine(x, y);
             }
-            ops_word::combine(ops_word::OR, x, y)
+            Op::Or.combine(x, y)
         }
     }
 }

@@ -1,1 +1,2 @@
 pub mod Op
+pub mod Named

@@ -3,34 +3,51 @@
 
 ghost use Rattle.std.specs.Prelude.{◌≡◌, get_or};
 ghost use Rattle.ops_word.specs.Op.{op_word, decider};
+ghost use Rattle.ops_word.specs.Named.{code, named};
 
-// The operations, by a formula's codes.
-pub const AND: u64 = 16;
-
-pub const OR: u64 = 17;
-
-pub const XOR: u64 = 18;
-
-// One word with another; what is neither AND nor OR counts as XOR.
-pub fn combine(op: u64, x: u64, y: u64) -> u64
-    ensures { result ≡ op_word op x y }
-{
-    if op == AND {
-        return x & y;
-    }
-    if op == OR {
-        return x | y;
-    }
-    x ^ y
+// The operations.
+#[derive(Clone, Copy, PartialEq, Eq)]
+pub enum Op {
+    And,
+    Or,
+    Xor,
 }
 
-// The word that decides, x or what stands at place c of the other part: where it is 0, x stays. The other part is read only where it
-// decides, so that nothing waits for a word that does not.
-pub fn moving(op: u64, x: u64, other: &[u64], c: usize) -> u64
-    ensures { result ≡ decider op x (get_or other.now c 0) }
-{
-    if op != AND {
-        return store::get(other, c);
+impl From<u64> for Op {
+    ghost from_gives = { λ n op. op ≡ named n };
+
+    // The operation of a formula's code; what is neither 16 nor 17 counts as xor.
+    fn from(n: u64) -> Op {
+        match n {
+            16 => Op::And,
+            17 => Op::Or,
+            _ => Op::Xor,
+        }
     }
-    x
+}
+
+impl Op {
+    // One word with another.
+    #[tactic(auto, unfolding(crate::specs::Op::op_word))]
+    pub fn combine(self, x: u64, y: u64) -> u64
+        ensures { result ≡ op_word (code self) x y }
+    {
+        match self {
+            Op::And => x & y,
+            Op::Or => x | y,
+            Op::Xor => x ^ y,
+        }
+    }
+
+    // The word that decides, x or what stands at place c of the other part: where it is 0, x stays. The other part is read only where it
+    // decides, so that nothing waits for a word that does not.
+    #[tactic(auto, unfolding(crate::specs::Op::decider))]
+    pub fn moving(self, x: u64, other: &[u64], c: usize) -> u64
+        ensures { result ≡ decider (code self) x (get_or other.now c 0) }
+    {
+        match self {
+            Op::And => x,
+            Op::Or | Op::Xor => store::get(other, c),
+        }
+    }
 }

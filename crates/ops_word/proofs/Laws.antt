@@ -7,6 +7,8 @@ use lib.Dec.{eqb}
 use Rattle.util.specs.Word.{bit}
 use Rattle.util.proofs.Bits.{bit-bit_and, bit-bit_or, bit-bit_xor}
 use Rattle.ops_word.specs.Op.{op_word, op_bit, decider}
+use Rattle.ops_word.specs.Named.{code, named}
+use Rattle.ops_word.specs.declared.Op.TheVariants.{And, Or, Xor}
 
 pub op_still : (op x y : ℕ) → decider op x y ≡ 0 → op_word op x y ≡ x
 unfolding op_word decider
@@ -47,3 +49,13 @@ op_lt op n x y h g = go (eqb op 16) (eqb op 17)
     go true q = and_lt n x y h g
     go false true = or_lt n x y h g
     go false false = xor_lt n x y h g
+
+-- a number's operation is the one that its code counts as
+pub op_word_named : (n x y : ℕ) → op_word (code (named n)) x y ≡ op_word n x y
+unfolding op_word
+op_word_named n x y = go (eqb n 16) (eqb n 17)
+  where
+    go : (p q : Bool) → op_word (code (cond p And (cond q Or Xor))) x y ≡ cond p (bit_and x y) (cond q (bit_or x y) (bit_xor x y))
+    go true q = refl
+    go false true = refl
+    go false false = refl
