@@ -18,7 +18,7 @@ use Rattle.store.specs.Build.{flag, flags}
 use Rattle.store.proofs.Build.{flags_lt, bit-flags}
 use Rattle.ops_word.specs.Op.{op_word}
 use Rattle.ops_group.specs.Group.{merge_named, mark_named, all, is_dense, group_words, group_over, Merging, Naming}
-use Rattle.ops_group.proofs.Named.{length_named, named_op, named_here, named_off, marked_on, marked_off, marked_lt, bit-all}
+use Rattle.ops_group.proofs.Named.{length_named, named_here, named_off, marked_on, marked_off, marked_lt, bit-all}
 
 -- ---- every word merged
 
@@ -232,18 +232,3 @@ module _ (op : ℕ) (xs ys : List ℕ) (w m : ℕ) (zs : List ℕ) where
 pub short_sparse : (n l m : ℕ) → n ≢ 64 → is_dense n l m ≡ false
 unfolding is_dense
 short_sparse n l m h = rw (ne_eqb n 64 h) refl
-
--- what is done by another number of the same operation
-pub same_op : (op o : ℕ) (w m : ℕ) (xs ys : List ℕ) {zs : List ℕ} {v : ℕ} → ((x y : ℕ) → op_word o x y ≡ op_word op x y)
-    → (zs ≡ merge_named o m 0 xs ys) × (v ≡ mark_named m (merge_named o m 0 xs ys) w) → (zs ≡ merge_named op m 0 xs ys) × (v ≡ mark_named m (merge_named op m 0 xs ys) w)
-same_op op o w m xs ys {zs} {v} e h =
-    let f = named_op op o m 0 xs ys e in
-    (h.0 ∙ f, h.1 ∙ ap (λ (q : List ℕ). mark_named m q w) f)
-
-pub op_equal : (op o : ℕ) → op ≡ o → (x y : ℕ) → op_word o x y ≡ op_word op x y
-op_equal op o e x y = ap (λ (q : ℕ). op_word q x y) (sym e)
-
--- what is neither and nor or counts as xor
-pub op_else : (op : ℕ) → op ≢ 16 → op ≢ 17 → (x y : ℕ) → op_word 18 x y ≡ op_word op x y
-unfolding op_word
-op_else op h g x y = rw (ne_eqb op 16 h, ne_eqb op 17 g) refl

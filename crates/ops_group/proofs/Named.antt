@@ -15,20 +15,13 @@ use Rattle.util.proofs.Bits.{bit_lt, bit-bit_or, bit-bit_and, bit-flip, bit_of_z
 use Rattle.store.specs.Build.{flag, flags}
 use Rattle.store.proofs.Build.{flag_lt, flag-on, bit-flags}
 use Rattle.ops_word.specs.Op.{op_word, decider}
-use Rattle.ops_word.proofs.Op.{op_still, op_none}
+use Rattle.ops_word.proofs.Laws.{op_still, op_none}
 use Rattle.ops_group.specs.Group.{merge_named, mark_named, all, is_dense, chosen, group_words, group_over}
 
 pub length_named : (op m i : ℕ) (xs ys : List ℕ) → length (merge_named op m i xs ys) ≡ length xs
 unfolding merge_named
 length_named op m i [] ys = refl
 length_named op m i (x ∷ xs) ys = ap suc (length_named op m (suc i) xs ys)
-
--- two numbers of one operation
-pub named_op : (op o m i : ℕ) (xs ys : List ℕ) → ((x y : ℕ) → op_word o x y ≡ op_word op x y) → merge_named o m i xs ys ≡ merge_named op m i xs ys
-unfolding merge_named
-named_op op o m i [] ys e = refl
-named_op op o m i (x ∷ xs) ys e =
-    ap₂ (λ (z : ℕ) (zs : List ℕ). cond (eqb (bit m i) 1) z x ∷ zs) (e x (get_or ys i 0)) (named_op op o m (suc i) xs ys e)
 
 -- word j of the group
 named_from : (op m i : ℕ) (xs ys : List ℕ) (j : ℕ) → j < length xs

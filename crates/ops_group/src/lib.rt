@@ -5,45 +5,41 @@ ghost use Rattle.std.specs.Prelude.{◌≡◌, ◌<◌, leb, length, get_or, set
 ghost use Rattle.util.specs.Word.{count};
 ghost use Rattle.store.specs.Build.{flags};
 ghost use Rattle.ops_word.specs.Op.{op_word};
+ghost use Rattle.ops_word.specs.Named.{code};
 ghost use Rattle.ops_group.specs.Group.{merge_named, mark_named, all, is_dense, group_words, group_over};
 
-// Whether three words or fewer are named: a quick look, since to count the bits of a word takes some twenty instructions.
-fn is_few(m: u64) -> bool
-    ensures { result ≡ leb (count m) 3 }
+use ops_word::Op;
+
+// Whether 12 words or more are named. A quick look first whether three or fewer are, since to count the bits of a word takes some twenty
+// instructions.
+fn is_many(m: u64) -> bool
+    ensures { result ≡ leb 12 (count m) }
 {
-    util::drop_lowest(util::drop_lowest(util::drop_lowest(m))) == 0
+    util::drop_lowest(util::drop_lowest(util::drop_lowest(m))) != 0 && 12 <= m.count_ones()
 }
 
 // Whether two groups go as a whole: both are full, and 12 words or more are named.
+#[tactic(auto, unfolding(crate::specs::Group::is_dense))]
 fn is_dense(n: usize, l: usize, m: u64) -> bool
     ensures { result ≡ is_dense n l m }
 {
-    if n != 64 {
-        return false;
-    }
-    if l != 64 {
-        return false;
-    }
-    if is_few(m) {
-        return false;
-    }
-    12 <= u64::count_ones(m)
+    n == 64 && l == 64 && is_many(m)
 }
 
 // A full group, each word with the other's at its place.
-fn merge_64(part: &mut [u64], other: &[u64], op: u64)
+fn merge_64(part: &mut [u64], other: &[u64], op: Op)
     requires { (length part.old ≡ 64) × (length other.now ≡ 64) }
-    ensures { part.new ≡ merge_named op all 0 part.old other.now }
+    ensures { part.new ≡ merge_named (code op) all 0 part.old other.now }
 {
-    for t in 0..64 {
-        part[t] = ops_word::combine(op, part[t], other[t]);
+    for (t, x) in part.iter_mut().enumerate() {
+        *x = op.combine(*x, other[t]);
     }
 }
 
 // The same, and its summary.
-fn dense_64(part: &mut [u64], other: &[u64], op: u64) -> u64
+fn dense_64(part: &mut [u64], other: &[u64], op: Op) -> u64
     requires { (length part.old ≡ 64) × (length other.now ≡ 64) }
-    ensures part_after { part.new ≡ merge_named op all 0 part.old other.now }
+    ensures part_after { part.new ≡ merge_named (code op) all 0 part.old other.now }
     ensures value { result ≡ flags part.new }
 {
     merge_64(part, other, op);
@@ -51,12 +47,12 @@ fn dense_64(part: &mut [u64], other: &[u64], op: u64) -> u64
 }
 
 // One word of a group; answers what stands there after, 0 past the group's end.
-fn leaf(part: &mut [u64], other: &[u64], t: usize, op: u64) -> u64
-    ensures part_after { let x = part.old in part.new ≡ set x t (op_word op (get_or x t 0) (get_or other.now t 0)) }
+fn leaf(part: &mut [u64], other: &[u64], t: usize, op: Op) -> u64
+    ensures part_after { let x = part.old in part.new ≡ set x t (op_word (code op) (get_or x t 0) (get_or other.now t 0)) }
     ensures value { result ≡ get_or part.new t 0 }
 {
     if t < part.len() {
-        let z = ops_word::combine(op, part[t], store::get(other, t));
+        let z = op.combine(part[t], store::get(other, t));
         part[t] = z;
         return z;
     }
@@ -65,14 +61,14 @@ fn leaf(part: &mut [u64], other: &[u64], t: usize, op: u64) -> u64
 
 // The words of a group that m names, one by one, each with the other's at its place; w is the word above the group. Answers the word above
 // after.
-pub fn one_by_one(part: &mut [u64], other: &[u64], w: u64, m: u64, op: u64) -> u64
-    ensures part_after { part.new ≡ merge_named op m 0 part.old other.now }
-    ensures value { result ≡ mark_named m (merge_named op m 0 part.old other.now) w }
+pub fn one_by_one(part: &mut [u64], other: &[u64], w: u64, m: u64, op: Op) -> u64
+    ensures part_after { part.new ≡ merge_named (code op) m 0 part.old other.now }
+    ensures value { result ≡ mark_named m (merge_named (code op) m 0 part.old other.now) w }
 {
     let mut over = w;
     let mut left = m;
     while left != 0 {
-        let t = u64::trailing_zeros(left) as usize;
+        let t = left.trailing_zeros() as usize;
         let z = leaf(part, other, t, op);
         over = util::with_bit(over, t, z != 0);
         left = util::drop_lowest(left);
@@ -80,25 +76,23 @@ pub fn one_by_one(part: &mut [u64], other: &[u64], w: u64, m: u64, op: u64) -> u
     over
 }
 
-// The same, with a loop of its own for each operation.
-fn sparse(part: &mut [u64], other: &[u64], w: u64, m: u64, op: u64) -> u64
-    ensures part_after { part.new ≡ merge_named op m 0 part.old other.now }
-    ensures value { result ≡ mark_named m (merge_named op m 0 part.old other.now) w }
+// The same, with a loop of its own for each operation, which is a literal there and not asked for at each turn.
+fn sparse(part: &mut [u64], other: &[u64], w: u64, m: u64, op: Op) -> u64
+    ensures part_after { part.new ≡ merge_named (code op) m 0 part.old other.now }
+    ensures value { result ≡ mark_named m (merge_named (code op) m 0 part.old other.now) w }
 {
-    if op == ops_word::AND {
-        return one_by_one(part, other, w, m, ops_word::AND);
+    match op {
+        Op::And => one_by_one(part, other, w, m, Op::And),
+        Op::Or => one_by_one(part, other, w, m, Op::Or),
+        Op::Xor => one_by_one(part, other, w, m, Op::Xor),
     }
-    if op == ops_word::OR {
-        return one_by_one(part, other, w, m, ops_word::OR);
-    }
-    one_by_one(part, other, w, m, ops_word::XOR)
 }
 
 // The words of a group that m names, each with the other's at its place; w is the word above the group. Answers the word above after.
 // Words that m does not name are merged too where the group goes as a whole.
-pub fn group(part: &mut [u64], other: &[u64], w: u64, m: u64, op: u64) -> u64
-    ensures part_after { part.new ≡ group_words op part.old other.now m }
-    ensures value { result ≡ group_over op part.old other.now w m }
+pub fn group(part: &mut [u64], other: &[u64], w: u64, m: u64, op: Op) -> u64
+    ensures part_after { part.new ≡ group_words (code op) part.old other.now m }
+    ensures value { result ≡ group_over (code op) part.old other.now w m }
 {
     if is_dense(part.len(), other.len(), m) {
         return dense_64(part, other, op);

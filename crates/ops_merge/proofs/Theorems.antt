@@ -1,7 +1,7 @@
 -- What a caller wants: the result is sound, its members are the union, the intersection or the symmetric difference, it is the one sound
 -- store with those members, and any two outcomes that meet the promise are equal where it settles them.
-use mathlib.Core.Bool.{Bool, true, false, ◌&&◌, true≢false}
-use mathlib.Core.List.{List, zip_with}
+use mathlib.Core.Bool.{Bool, true, false, cond, ◌&&◌, true≢false}
+use mathlib.Core.List.{List, [], ◌∷◌, zip_with}
 use mathlib.Core.Logic.{◌≢◌, ◌⊎◌, inl, inr, ⊎_elim, ◌↔◌}
 use mathlib.Core.Path.{◌≡◌, refl, sym, ap, ap₂, ◌∙◌, subst}
 use Prim.Native.Nat.{ℕ, zero, suc, ◌/◌, ◌%◌, ◌<◌, max}
@@ -11,11 +11,11 @@ use borrow.Author.Tests.{eqb-true}
 use lib.Bits.{differ}
 use lib.Dec.{eqb}
 use lib.ListN.{length}
-use Rattle.util.specs.Outcome.{settles}
+use Rattle.util.specs.Outcome.{Outcome, Settled, settles}
 use Rattle.util.specs.Word.{bit}
 use Rattle.util.proofs.Same.{both}
-use Rattle.store.specs.Answer.{did_paper}
-use Rattle.store.specs.Build.{layer0}
+use Rattle.store.specs.Answer.{did_paper, does, refuses}
+use Rattle.store.specs.Build.{build, layer0}
 use Rattle.store.specs.Layout.{layer_len, cap, is_store, StoreOf}
 use Rattle.store.specs.Word.{on, word, Member, Sound, Words64, SoundStore}
 use Rattle.std.specs.Prelude.{Result}
@@ -25,7 +25,8 @@ use Rattle.store.proofs.Geometry.{is_store_lem, store_is}
 use Rattle.store.proofs.Members.{member-on, on-member, own, fine_same}
 use Rattle.store.proofs.Words.{on_lt}
 use Rattle.ops_word.specs.Op.{op_word, op_bit}
-use Rattle.ops_word.proofs.Op.{op_bit_lem}
+use Rattle.ops_word.specs.Named.{code, named}
+use Rattle.ops_word.proofs.Laws.{op_bit_lem, op_word_named}
 use Rattle.ops_merge.specs.Calls.{merged_of, mergeable, BothStores, assign_of, BothSound, Assigned}
 use Rattle.ops_merge.proofs.Tree.{on_is}
 use Rattle.ops_merge.proofs.Whole.{long_merged, word_merged, kept_merged}
@@ -198,3 +199,26 @@ assigned_answers {r = r} {r' = r'} v w = (
 
 pub assigned_settles : {op : ℕ} {s t : List ℕ} {r r' : Result (Unit {0}) Refusal} {u u' : List ℕ} → Assigned op s t r u → Assigned op s t r' u' → BothSound s t → (r ≡ r') × (u ≡ u')
 assigned_settles v w z = settles (v.whole z) (w.whole z)
+
+-- "16 and, 17 or, 18 xor": a call told by the operation of a number keeps what is promised for the number
+zip_same : (f g : ℕ → ℕ → ℕ) → ((x y : ℕ) → f x y ≡ g x y) → (xs ys : List ℕ) → zip_with f xs ys ≡ zip_with g xs ys
+unfolding zip_with
+zip_same f g e [] ys = refl
+zip_same f g e (x ∷ xs) [] = refl
+zip_same f g e (x ∷ xs) (y ∷ ys) = ap₂ (λ (z : ℕ) (zs : List ℕ). z ∷ zs) (e x y) (zip_same f g e xs ys)
+
+pub assign_named : (n : ℕ) (s t : List ℕ) → assign_of (code (named n)) s t ≡ assign_of n s t
+unfolding assign_of merged_of
+assign_named n s t =
+    ap (λ (l : List ℕ). cond (is_store s && is_store t) (cond (eqb (cap s) (cap t)) (does (build (cap s) l)) (refuses 5 s)) (refuses 2 s))
+    (zip_same (op_word (code (named n))) (op_word n) (op_word_named n) (layer0 (cap s) s) (layer0 (cap s) t))
+
+pub assigned_named : (n : ℕ) {s t : List ℕ} {r : Result (Unit {0}) Refusal} {u : List ℕ} → Assigned (code (named n)) s t r u → Assigned n s t r u
+assigned_named n {s} {t} {r} {u} v =
+    let e = assign_named n s t in
+    record {
+      answer = v.answer ∙ ap (λ (o : Outcome (List ℕ)). o.numbers) e;
+      long = v.long;
+      names = v.names;
+      whole = λ z. subst (λ (o : Outcome (List ℕ)). Settled did_paper o r u) e (v.whole z);
+    }

@@ -15,7 +15,7 @@ use Rattle.store.specs.Layout.{top, layer_len, store_len}
 use Rattle.store.specs.Word.{word, on, anc, put}
 use Rattle.store.proofs.Words.{word_out, word-put-same, word-put_other, on-put-same}
 use Rattle.ops_word.specs.Op.{op_word, decider}
-use Rattle.ops_word.proofs.Op.{op_still}
+use Rattle.ops_word.proofs.Laws.{op_still}
 use Rattle.ops_merge.specs.Tree.{Exact, ToldMerge, Done, Child, Along}
 
 pub anc_half : (p d : ℕ) → anc (p / 64) d ≡ anc p (suc d)

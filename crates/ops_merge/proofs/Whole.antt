@@ -16,7 +16,7 @@ use Rattle.store.proofs.Build.{length-layer0, word-layer0, sound_built}
 use Rattle.store.proofs.TopLayer.{top_one}
 use Rattle.store.proofs.Words.{word_out, place_in}
 use Rattle.ops_word.specs.Op.{op_word, decider}
-use Rattle.ops_word.proofs.Op.{op_none, op_lt, moved_none}
+use Rattle.ops_word.proofs.Laws.{op_none, op_lt, moved_none}
 use Rattle.ops_merge.specs.Tree.{ToldMerge, Done}
 use Rattle.ops_merge.proofs.Tree.{anc_half, on_is, some_in}
 

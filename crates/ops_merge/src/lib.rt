@@ -2,30 +2,26 @@
 // the side that decides.
 #![tactic(auto)]
 
-ghost use Rattle.std.specs.Prelude.{◌≡◌, ◌-◌, ◌<◌, min};
+ghost use Rattle.std.specs.Prelude.{◌≡◌, ◌-◌, ◌<◌};
+ghost use Rattle.ops_word.specs.Named.{code};
 ghost use Rattle.ops_merge.specs.Calls.{Assigned};
 ghost use Rattle.ops_merge.specs.Tree.{MergeAt, TaskDone, task_of};
 
+use ops_word::Op;
 use store::Refusal;
-
-fn least(x: usize, y: usize) -> usize
-    ensures { result ≡ min x y }
-{
-    if x < y { x } else { y }
-}
 
 // The words of layer 0 under word j of layer 1, of which m names those that can change; w is that word. Answers the word after. The last
 // group may be short.
-fn leaves(store: &mut [u64], other: &[u64], n: usize, j: usize, w: u64, m: u64, op: u64) -> u64
+fn leaves(store: &mut [u64], other: &[u64], n: usize, j: usize, w: u64, m: u64, op: Op) -> u64
     requires { MergeAt store.old other.now n 0 j }
-    ensures { TaskDone (task_of op n 0 j w m) store.old other.now store.new result }
+    ensures { TaskDone (task_of (code op) n 0 j w m) store.old other.now store.new result }
 {
     let a = store::start(store.len(), n, 0) + j * 64;
     let e = a + 64;
     if e <= store.len() {
         return ops_group::group(&mut store[a..e], &other[a..e], w, m, op);
     }
-    let b = least(a, store.len());
+    let b = a.min(store.len());
     ops_group::one_by_one(&mut store[b..], &other[b..], w, m, op)
 }
 
@@ -40,10 +36,10 @@ fn under(
     j: usize,
     w: u64,
     m: u64,
-    op: u64,
+    op: Op,
 ) -> u64
     requires { (0 < k) × MergeAt store.old other.now n (k - 1) j }
-    ensures { TaskDone (task_of op n (k - 1) j w m) store.old other.now store.new result }
+    ensures { TaskDone (task_of (code op) n (k - 1) j w m) store.old other.now store.new result }
 {
     if k == 1 {
         return leaves(store, other, n, j, w, m, op);
@@ -61,20 +57,20 @@ fn below(
     j: usize,
     w: u64,
     m: u64,
-    op: u64,
+    op: Op,
 ) -> u64
     requires { (0 < k) × MergeAt store.old other.now n k j }
-    ensures { TaskDone (task_of op n k j w m) store.old other.now store.new result }
+    ensures { TaskDone (task_of (code op) n k j w m) store.old other.now store.new result }
 {
     let a = store::start(store.len(), n, k);
     let e = store::end(n, k);
     let mut over = w;
     let mut left = m;
     while left != 0 {
-        let t = u64::trailing_zeros(left) as usize;
+        let t = left.trailing_zeros() as usize;
         let c = j * 64 + t;
         let x = store::get(&store[a..e], c);
-        let y = ops_word::moving(op, x, &other[a..e], c);
+        let y = op.moving(x, &other[a..e], c);
         let z = under(store, other, n, k, c, x, y, op);
         store::put(&mut store[a..e], c, z);
         over = util::with_bit(over, t, z != 0);
@@ -83,9 +79,9 @@ fn below(
     over
 }
 
-// The three calls, told which by a formula's code: the tests, and the top word as the one word under a word above it.
-pub fn assign(store: &mut [u64], other: &[u64], op: u64) -> Result<(), Refusal>
-    ensures { Assigned op store.old other.now result store.new }
+// The three calls, told which: the tests, and the top word as the one word under a word above it.
+pub fn assign(store: &mut [u64], other: &[u64], op: Op) -> Result<(), Refusal>
+    ensures { Assigned (code op) store.old other.now result store.new }
 {
     let n = store::same_capacity(store, other)?;
     below(store, other, n, store::top(n), 0, 0, 1, op);

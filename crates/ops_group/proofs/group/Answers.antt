@@ -1,5 +1,6 @@
 -- `group` meets its contract: as a whole, or the words that are named.
 use mathlib.Core.Path.{sym, ◌∙◌}
+use Rattle.ops_word.specs.Named.{code}
 use Rattle.ops_group.proofs.Loops.{dense_long, dense_out, sparse_out}
 use Rattle.ops_group.proofs.group.Goals as goal
 
@@ -10,13 +11,13 @@ dense_64-requires c =
 pub returns-then-is_dense : goal.returns-then-is_dense
 returns-then-is_dense c =
     let a = c.args in
-    let out = dense_out a.op a.part.now a.other.now a.w a.m c.dense_64.new.part _ (sym c.is_dense.ensures ∙ c.if-is_dense.true)
+    let out = dense_out (code a.op) a.part.now a.other.now a.w a.m c.dense_64.new.part _ (sym c.is_dense.ensures ∙ c.if-is_dense.true)
     c.dense_64.ensures.part_after c.dense_64.ensures.value in
     record { part_after = out.0; value = out.1 }
 
 pub returns : goal.returns
 returns c =
     let a = c.args in
-    let out = sparse_out a.op a.part.now a.other.now a.w a.m c.sparse.new.part _ (sym c.is_dense.ensures ∙ c.if-is_dense.false)
+    let out = sparse_out (code a.op) a.part.now a.other.now a.w a.m c.sparse.new.part _ (sym c.is_dense.ensures ∙ c.if-is_dense.false)
     c.sparse.ensures.part_after c.sparse.ensures.value in
     record { part_after = out.0; value = out.1 }
