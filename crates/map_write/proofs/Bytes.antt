@@ -1,21 +1,20 @@
 -- The map's bytes, part by part: the header, the entries, and both over the front of a buffer.
-use mathlib.Core.Bool.{Bool, true, false, cond}
-use mathlib.Core.List.{List, [], ◌∷◌, ◌++◌, append_assoc}
-use mathlib.Core.Logic.{◌≢◌}
-use mathlib.Core.Path.{◌≡◌, refl, sym, ap, ap₂, ◌∙◌}
-use Prim.Native.Nat.{ℕ, zero, suc, ◌+◌, ◌-◌, ◌*◌, ◌/◌, ◌≤◌}
-use native.Mathlib.Omega.{arith}
-use borrow.Author.Tests.{eq-eqb, ne_eqb}
+use Rattle.std.proofs.Common.{◌≡◌, ◌≢◌, ℕ, zero, suc, ◌+◌, ◌-◌, ◌*◌, ◌/◌, ◌≤◌, Bool, true, false, cond, eqb, List, [], ◌∷◌, ◌++◌, length, take, drop, refl, sym, ap, ap₂, ◌∙◌, arith, append_assoc, length-append, length-take-le, drop_at, eq-eqb, ne_eqb}
+use Rattle.std.proofs.Math.Seq.{sets, sets-eq, length-sets}
+use borrow.Rule.Slice.PartMut.{put_mid, Post-is}
 use lib.Count.{ones_in}
-use lib.Dec.{eqb}
-use lib.ListN.{length, take, drop, length-append}
-use lib.Seq.{sets, sets-eq, length-sets, length-take-le, drop_at}
 use Rattle.util.specs.Word.{count}
 use Rattle.store.specs.Build.{flag}
 use Rattle.store.proofs.Build.{flag_lt}
 use Rattle.map_format.specs.Bytes.{le}
 use Rattle.map_format.proofs.Numbers.{length-le, sets_append}
 use Rattle.map_write.specs.Map.{count_all, used, entry_of, entries, head_of, map_of, map_len}
+
+-- bytes copied over a part
+pub put_mid-sets : (b : List ℕ) (o : ℕ) (bs : List ℕ) → o + length bs ≤ length b → put_mid o (o + length bs - o) b bs ≡ sets b o bs
+put_mid-sets b o bs h =
+    ap (λ (x : List ℕ). take o b ++ (bs ++ x)) (Post-is o (o + length bs) b (omega arith))
+    ∙ sym (append_assoc (take o b) bs (drop (o + length bs) b)) ∙ sym (sets-eq bs b o h)
 
 -- ---- the header
 

@@ -1,56 +1,62 @@
--- The entries of words put one after the other: each call goes on where the one before it with_last, and room for all is room for each.
-use mathlib.Core.List.{List, [], ◌∷◌, ◌++◌, append-nil}
-use mathlib.Core.Logic.{◌≢◌}
-use mathlib.Core.Path.{◌≡◌, refl, sym, ap, ap₂, ◌∙◌, subst}
-use Prim.Native.Nat.{ℕ, suc, ◌+◌, ◌-◌, ◌*◌, ◌/◌, ◌^◌, ◌≤◌, ◌<◌}
-use native.Mathlib.Nat.{add-zero}
-use native.Mathlib.Omega.{arith}
-use lib.Bits.{bit_or, or_add_and, and_le_l, and_le_r}
+-- The entries of words put one after the other: each call goes on where the one before it ended, and room for all is room for each.
+use Rattle.std.proofs.Common.{◌≡◌, ◌≢◌, ℕ, zero, suc, ◌+◌, ◌-◌, ◌*◌, ◌/◌, ◌^◌, ◌≤◌, ◌<◌, List, [], ◌∷◌, ◌++◌, length, get_or, take, drop, refl, sym, ap, ap₂, ◌∙◌, subst, arith, bit_or, append-nil, append_assoc, length-append, length-drop, length-take-le, get_or-take, take-append-drop, drop-drop, MutBor}
+use Rattle.std.proofs.Math.Seq.{sets, length-sets}
+use Rattle.std.proofs.lemmas.List.{take_more}
+use Rattle.std.specs.List.{concat}
+use Rattle.std.specs.Simd.{first_chunks}
+use lib.Bits.{or_add_and, and_le_l, and_le_r}
 use lib.Count.{ones, ones-le}
-use lib.ListN.{length, get_or, take, drop, length-append, length-drop}
-use lib.Seq.{sets, length-sets, length-take-le, take-add, drop-cons, drop-drop}
 use Rattle.util.proofs.Count.{count_ones}
 use Rattle.store.proofs.Build.{flag_zero, flag_one}
 use Rattle.map_format.specs.Bytes.{le}
-use Rattle.map_format.specs.Steps.{with_last}
 use Rattle.map_format.proofs.Numbers.{sets_append}
-use Rattle.map_format.proofs.Used.{with_last_is}
+use Rattle.map_format.proofs.Used.{length_with_last, with_last_is}
 use Rattle.map_write.specs.Map.{count_all, used, entry_of, entries, head_of, map_of, map_len}
-use Rattle.map_write.specs.Steps.{words_from, Draft, draft_at, Room, Rooms, EntryFits, Entered}
-use Rattle.map_write.proofs.Bytes.{entry_none, entry_some, length-entries, entries-append, used-append, count-append, count-le, map-put}
+use Rattle.map_write.specs.Steps.{words_of, MapFits, Room, Entered, Headed}
+use Rattle.map_write.specs.declared.Draft.{Draft}
+use Rattle.map_write.specs.declared.Told.{Told}
+use Rattle.map_write.proofs.Bytes.{entry_none, entry_some, length-entries, entries-append, used-append, count-append, count-le, used_le, map-put}
 
 -- ---- words, and words behind them
 
-module _ {q : ℕ} {d : Draft} where
-  pub entered_none : Entered q [] d d
-  unfolding used count_all entries
-  entered_none = record { place = omega arith; sum = omega arith; bytes = refl }
+pub entered_none : {q : ℕ} {d : Draft} → Entered q [] d d
+unfolding used count_all entries
+entered_none = record { at = omega arith; members = omega arith; bytes = refl; same = refl }
 
-  module _ {xs : List ℕ} {d₁ : Draft} (h : Entered q xs d d₁) where
-    pub entered_long : length d₁.bytes ≡ length d.bytes
-    entered_long = ap length h.bytes ∙ length-sets d.bytes d.place (entries q xs)
+module _ {q : ℕ} {d : Draft} {xs : List ℕ} where
+  pub room_first : (ys : List ℕ) → Room q (xs ++ ys) d → Room q xs d
+  room_first ys r =
+      record {
+        bytes = omega (arith, r.bytes, used-append xs ys);
+        numbers = omega (arith, r.numbers, length-append xs ys);
+        members = omega (arith, r.members, length-append xs ys);
+      }
 
-    pub entered_more : {ys : List ℕ} {d₂ : Draft} → Entered (q + length xs) ys d₁ d₂ → Entered q (xs ++ ys) d d₂
-    entered_more {ys} {d₂} g =
-        let here : d₁.place ≡ d.place + length (entries q xs) = omega (arith, h.place, length-entries q xs) in
+  module _ {d₁ : Draft} (h : Entered q xs d d₁) where
+    entered_long : length d₁.buf.now ≡ length d.buf.now
+    entered_long = ap length h.bytes ∙ length-sets d.buf.now d.at (entries q xs)
+
+    pub entered_more : {p : ℕ} {ys : List ℕ} {d₂ : Draft} → p ≡ q + length xs → Entered p ys d₁ d₂ → Entered q (xs ++ ys) d d₂
+    entered_more {p} {ys} {d₂} e g =
+        let here : d₁.at ≡ d.at + length (entries q xs) = omega (arith, h.at, length-entries q xs) in
         record {
-          place = omega (arith, h.place, g.place, used-append xs ys);
-          sum = omega (arith, h.sum, g.sum, count-append xs ys);
+          at = omega (arith, h.at, g.at, used-append xs ys);
+          members = omega (arith, h.members, g.members, count-append xs ys);
           bytes =
               g.bytes
-              ∙ ap₂ (λ (x : List ℕ) (k : ℕ). sets x k (entries (q + length xs) ys)) h.bytes here
-              ∙ sym (ap (sets d.bytes d.place) (entries-append q xs ys) ∙ sets_append d.bytes d.place (entries q xs) (entries (q + length xs) ys));
+              ∙ ap₂ (λ (x : List ℕ) (k : ℕ). sets x k (entries p ys)) h.bytes here
+              ∙ ap (λ (k : ℕ). sets (sets d.buf.now d.at (entries q xs)) (d.at + length (entries q xs)) (entries k ys)) e
+              ∙ sym (ap (sets d.buf.now d.at) (entries-append q xs ys) ∙ sets_append d.buf.now d.at (entries q xs) (entries (q + length xs) ys));
+          same = g.same ∙ h.same;
         }
 
-    pub room_next : (ys : List ℕ) → Room (xs ++ ys) d → Room ys d₁
-    room_next ys r =
+    pub room_next : {p : ℕ} (ys : List ℕ) → p ≡ q + length xs → Room q (xs ++ ys) d → Room p ys d₁
+    room_next ys e r =
         record {
-          bytes = omega (arith, r.bytes, used-append xs ys, h.place, entered_long);
-          few = omega (arith, r.few, length-append xs ys, h.sum, count-le xs);
+          bytes = omega (arith, r.bytes, used-append xs ys, h.at, entered_long);
+          numbers = omega (arith, r.numbers, length-append xs ys);
+          members = omega (arith, r.members, length-append xs ys, h.members, count-le xs);
         }
-
-pub room_first : {d : Draft} {xs : List ℕ} (ys : List ℕ) → Room (xs ++ ys) d → Room xs d
-room_first {d} {xs} ys r = record { bytes = omega (arith, r.bytes, used-append xs ys); few = omega (arith, r.few, length-append xs ys) }
 
 -- ---- one word
 
@@ -60,153 +66,167 @@ module _ {q x : ℕ} {d : Draft} where
   entered_zero h =
       let z : ones x ≤ 0 = ones-le 0 x (omega arith) in
       record {
-        place = omega (arith, flag_zero x h);
-        sum = omega (arith, count_ones x (omega arith));
-        bytes = sym (ap (sets d.bytes d.place) (append-nil (entry_of q x)) ∙ entry_none d.bytes d.place q x h);
+        at = omega (arith, flag_zero x h);
+        members = omega (arith, count_ones x (omega arith));
+        bytes = sym (ap (sets d.buf.now d.at) (append-nil (entry_of q x)) ∙ entry_none d.buf.now d.at q x h);
+        same = refl;
       }
 
-  pub entered_one : x ≢ 0 → x < 2 ^ 64 → {b : List ℕ} → b ≡ sets (sets d.bytes d.place (le 4 q)) (d.place + 4) (le 8 x)
-      → Entered q (x ∷ []) d (draft_at (d.place + 12) (d.sum + ones x) b)
+  pub entered_one : x ≢ 0 → x < 2 ^ 64 → {b : MutBor (List ℕ)} → b.now ≡ sets (sets d.buf.now d.at (le 4 q)) (d.at + 4) (le 8 x) → b.ghost_name ≡ d.buf.ghost_name
+      → Entered q (x ∷ []) d (record { buf = b; at = d.at + 12; members = d.members + ones x })
   unfolding used count_all entries
-  entered_one h l e =
+  entered_one h l e same =
       record {
-        place = omega (arith, flag_one x h);
-        sum = omega (arith, count_ones x l);
-        bytes = e ∙ sym (ap (sets d.bytes d.place) (append-nil (entry_of q x)) ∙ entry_some d.bytes d.place q x h);
+        at = omega (arith, flag_one x h);
+        members = omega (arith, count_ones x l);
+        bytes = e ∙ sym (ap (sets d.buf.now d.at) (append-nil (entry_of q x)) ∙ entry_some d.buf.now d.at q x h);
+        same = same;
       }
 
-pub room-one : {x : ℕ} {d : Draft} → Room (x ∷ []) d → x ≢ 0 → d.place + 12 ≤ length d.bytes
-unfolding used
-room-one {x} {d} r h = omega (arith, r.bytes, flag_one x h)
+  pub room-one : Room q (x ∷ []) d → x ≢ 0 → d.at + 12 ≤ length d.buf.now
+  unfolding used
+  room-one r h = omega (arith, r.bytes, flag_one x h)
 
--- ---- parts of the words
+-- ---- word by word: the first i are entered
 
-module _ (ws : List ℕ) where
-  part_more : (q i c : ℕ) → words_from q (i + c) ws ≡ words_from q i ws ++ words_from (q + i) c ws
-  part_more q i c = take-add i c (drop q ws) ∙ ap (λ (l : List ℕ). words_from q i ws ++ take c l) (drop-drop i q ws)
+module _ {q : ℕ} {d : Draft} (ws : List ℕ) (i : ℕ) {d₁ : Draft} (h : Entered q (take i ws) d d₁) (l : i < length ws) where
+  here : q + i ≡ q + length (take i ws)
+  here = omega (arith, length-take-le i ws (omega arith))
 
-  length_part : (q i : ℕ) → q + i ≤ length ws → length (words_from q i ws) ≡ i
-  length_part q i h = length-take-le i (drop q ws) (omega (arith, length-drop q ws))
+  pub step_room : Room q ws d → Room (q + i) (get_or ws i 0 ∷ []) d₁
+  step_room r =
+      let all : ws ≡ take i ws ++ (get_or ws i 0 ∷ [] ++ drop (i + 1) ws) =
+      sym (take-append-drop (i + 1) ws) ∙ ap (λ (l : List ℕ). l ++ drop (i + 1) ws) (take_more ws i 0 l) ∙ append_assoc (take i ws) (get_or ws i 0 ∷ []) (drop (i + 1) ws) in
+      room_first (drop (i + 1) ws) (room_next h (get_or ws i 0 ∷ [] ++ drop (i + 1) ws) here (subst (λ (l : List ℕ). Room q l d) all r))
 
-  part_cons : (q i : ℕ) → q < length ws → words_from q (suc i) ws ≡ get_or ws q 0 ∷ words_from (suc q) i ws
-  part_cons q i h = ap (take (suc i)) (drop-cons ws q 0 h)
+  pub step_more : {d₂ : Draft} → Entered (q + i) (get_or ws i 0 ∷ []) d₁ d₂ → Entered q (take (i + 1) ws) d d₂
+  step_more {d₂} g = subst (λ (l : List ℕ). Entered q l d d₂) (sym (take_more ws i 0 l)) (entered_more h here g)
 
--- a part of one word
-module _ {ws : List ℕ} {q : ℕ} {d : Draft} (r : Rooms ws q 1 d) where
-  one_is : words_from q 1 ws ≡ get_or ws q 0 ∷ []
-  one_is = part_cons ws q 0 (omega (arith, r.inside))
-
-  pub word_room : Room (get_or ws q 0 ∷ []) d
-  word_room = subst (λ (x : List ℕ). Room x d) one_is r.room
-
-  pub word_entered : {d₁ : Draft} → Entered q (get_or ws q 0 ∷ []) d d₁ → Entered q (words_from q 1 ws) d d₁
-  word_entered {d₁} = subst (λ (x : List ℕ). Entered q x d d₁) (sym one_is)
-
--- the first i of n words are entered
-pub record Entering (ws : List ℕ) (q n : ℕ) (d : Draft) (i : ℕ) (d₁ : Draft) : Type 0 where
-  pub upto : i ≤ n
-  pub done : Entered q (words_from q i ws) d d₁
-
-module _ {ws : List ℕ} {q n : ℕ} {d : Draft} (r : Rooms ws q n d) where
-  pub entering_start : Entering ws q n d 0 d
-  entering_start = record { upto = omega arith; done = entered_none }
-
-  module _ {i : ℕ} {d₁ : Draft} (h : Entering ws q n d i d₁) where
-    pub entering_end : n ≤ i → Entered q (words_from q n ws) d d₁
-    entering_end l = let e : i ≡ n = omega (arith, h.upto) in subst (λ (k : ℕ). Entered q (words_from q k ws) d d₁) e h.done
-
-    -- c words more, from number p on
-    module _ (c p j : ℕ) (l : j ≤ n) (ep : p ≡ q + i) (ej : j ≡ i + c) where
-      parts : words_from q j ws ≡ words_from q i ws ++ words_from p c ws
-      parts = rw (ep, ej) (part_more ws q i c)
-
-      pub entering_room : Rooms ws p c d₁
-      entering_room =
-          let e : n ≡ j + (n - j) = omega arith in
-          let all : Room (words_from q j ws ++ words_from (q + j) (n - j) ws) d =
-          subst (λ (x : List ℕ). Room x d) (ap (λ (k : ℕ). words_from q k ws) e ∙ part_more ws q j (n - j)) r.room in
-          let first : Room (words_from q j ws) d = room_first (words_from (q + j) (n - j) ws) all in
-          record { inside = omega (arith, r.inside); room = room_next h.done (words_from p c ws) (subst (λ (x : List ℕ). Room x d) parts first) }
-
-      pub entering_turn : {d₂ : Draft} → Entered p (words_from p c ws) d₁ d₂ → Entering ws q n d j d₂
-      entering_turn {d₂} g =
-          let e : p ≡ q + length (words_from q i ws) = omega (arith, length_part ws q i (omega (arith, r.inside))) in
-          record {
-            upto = l;
-            done =
-                subst (λ (x : List ℕ). Entered q x d d₂) (sym parts)
-                (entered_more h.done (subst (λ (k : ℕ). Entered k (words_from p c ws) d₁ d₂) e g));
-          }
-
--- ---- four words that are zero together
+-- ---- four words at a time: of the fours fs, the first k are entered
 
 or_zero : (x y : ℕ) → bit_or x y ≡ 0 → (x ≡ 0) × (y ≡ 0)
 or_zero x y e = (omega (arith, or_add_and x y, and_le_r x y), omega (arith, or_add_and x y, and_le_l x y))
 
-module _ {ws : List ℕ} {q : ℕ} {d : Draft} (r : Rooms ws q 4 d) where
-  passed : (i : ℕ) → i < 4 → get_or ws (q + i) 0 ≡ 0 → Entering ws q 4 d i d → Entering ws q 4 d (i + 1) d
-  passed i l z h =
-      entering_turn r h 1 (q + i) (i + 1) (omega arith) refl refl
-      (word_entered (entering_room r h 1 (q + i) (i + 1) (omega arith) refl refl) (entered_zero z))
+-- four words that are zero together
+pub entered_four : {q : ℕ} {d : Draft} (xs : List ℕ) → length xs ≡ 4 → bit_or (bit_or (bit_or (get_or xs 0 0) (get_or xs 1 0)) (get_or xs 2 0)) (get_or xs 3 0) ≡ 0 → Entered q xs d d
+entered_four [] l e = absurd (omega arith)
+entered_four (a ∷ []) l e = absurd (omega arith)
+entered_four (a ∷ b ∷ []) l e = absurd (omega arith)
+entered_four (a ∷ b ∷ c ∷ []) l e = absurd (omega arith)
+entered_four (w ∷ x ∷ y ∷ z ∷ []) l e =
+    let c = or_zero _ _ e in
+    let b = or_zero _ _ c.0 in
+    let a = or_zero _ _ b.0 in
+    entered_more (entered_zero a.0) refl (entered_more (entered_zero a.1) refl (entered_more (entered_zero b.1) refl (entered_zero c.1)))
+entered_four (a ∷ b ∷ c ∷ e ∷ f ∷ xs) l o = absurd (omega arith)
 
-  pub entered_four : bit_or (bit_or (bit_or (get_or ws q 0) (get_or ws (q + 1) 0)) (get_or ws (q + 2) 0)) (get_or ws (q + 3) 0) ≡ 0 → Entered q (words_from q 4 ws) d d
-  entered_four e =
-      let w3 = or_zero _ _ e in
-      let w2 = or_zero _ _ w3.0 in
-      let w1 = or_zero _ _ w2.0 in
-      let w0 : get_or ws (q + 0) 0 ≡ 0 = ap (λ (k : ℕ). get_or ws k 0) (add-zero q) ∙ w1.0 in
-      let two = passed 1 (omega arith) w1.1 (passed 0 (omega arith) w0 (entering_start r)) in
-      entering_end r (passed 3 (omega arith) w3.1 (passed 2 (omega arith) w2.1 two)) (omega arith)
+-- lists joined
+concat-append : (fs gs : List (List ℕ)) → concat (fs ++ gs) ≡ concat fs ++ concat gs
+concat-append [] gs = refl
+concat-append (f ∷ fs) gs = ap (λ (l : List ℕ). f ++ l) (concat-append fs gs) ∙ sym (append_assoc f (concat fs) (concat gs))
 
--- ---- all words: the fours, what is left before the last word, and the last word
+abbrev pub Each4 : List (List ℕ) → Type 0
+Each4 fs = (i : ℕ) → i < length fs → length (get_or fs i []) ≡ 4
 
-pub fours_in : (n : ℕ) → 4 * (n / 4) ≤ n
-fours_in n = omega arith
+length_fours : (fs : List (List ℕ)) → Each4 fs → length (concat fs) ≡ 4 * length fs
+length_fours [] h = refl
+length_fours (f ∷ fs) h = omega (arith, length-append f (concat fs), h 0 (omega arith), length_fours fs (λ i l. h (suc i) (omega arith)))
 
-module _ {ws : List ℕ} {last : ℕ} {b : List ℕ} (f : EntryFits ws last b) where
-  -- the words before the last, and the buffer before the first entry
-  abbrev end : ℕ
-  end = length ws - 1
+module _ {d : Draft} (fs : List (List ℕ)) (each : Each4 fs) (k : ℕ) {d₁ : Draft} (h : Entered 0 (concat (take k fs)) d d₁) (l : k < length fs) where
+  four_at : 4 * k ≡ 0 + length (concat (take k fs))
+  four_at =
+      let long = length-take-le k fs (omega arith) in
+      omega (arith, long, length_fours (take k fs) (λ i m. rw (get_or-take k fs i [] (omega (arith, long))) (each i (omega (arith, long)))))
 
-  abbrev blank : Draft
-  blank = draft_at 16 0 b
+  one_more : concat (take (k + 1) fs) ≡ concat (take k fs) ++ get_or fs k []
+  one_more = ap concat (take_more fs k [] l) ∙ concat-append (take k fs) (get_or fs k [] ∷ []) ∙ ap (λ (l : List ℕ). concat (take k fs) ++ l) (append-nil (get_or fs k []))
 
-  words_are : with_last ws last ≡ words_from 0 end ws ++ last ∷ []
-  words_are = with_last_is ws last f.some
+  pub four_room : Room 0 (concat fs) d → Room (4 * k) (get_or fs k []) d₁
+  four_room r =
+      let all : concat fs ≡ concat (take k fs) ++ (get_or fs k [] ++ concat (drop (k + 1) fs)) =
+      ap concat (sym (take-append-drop (k + 1) fs)) ∙ concat-append (take (k + 1) fs) (drop (k + 1) fs) ∙ ap (λ (l : List ℕ). l ++ concat (drop (k + 1) fs)) one_more
+      ∙ append_assoc (concat (take k fs)) (get_or fs k []) (concat (drop (k + 1) fs)) in
+      room_first (concat (drop (k + 1) fs)) (room_next h (get_or fs k [] ++ concat (drop (k + 1) fs)) four_at (subst (λ (l : List ℕ). Room 0 l d) all r))
 
-  room_here : Room (words_from 0 end ws ++ last ∷ []) blank
-  room_here = subst (λ (x : List ℕ). Room x blank) words_are f.room
+  pub four_more : {d₂ : Draft} → Entered (4 * k) (get_or fs k []) d₁ d₂ → Entered 0 (concat (take (k + 1) fs)) d d₂
+  four_more {d₂} g = subst (λ (l : List ℕ). Entered 0 l d d₂) (sym one_more) (entered_more h four_at g)
 
-  front : Rooms ws 0 end blank
-  front = record { inside = omega (arith, f.some); room = room_first (last ∷ []) room_here }
+-- ---- all words: the fours, what is left before the last word, and the last word; and the header in front of them
 
-  module _ (k : ℕ) (l : k ≤ length ws - 1) where
-    pub fours_room : Rooms ws 0 k (draft_at 16 0 b)
-    fours_room = entering_room front (entering_start front) k 0 k l refl (omega arith)
+by_fours : (n k : ℕ) (xs : List ℕ) → concat (first_chunks n k xs) ++ drop (k * n) xs ≡ xs
+by_fours n zero xs = let e : 0 * n ≡ 0 = omega arith in ap (λ (m : ℕ). drop m xs) e
+by_fours n (suc k) xs =
+    let e : suc k * n ≡ n + k * n = omega arith in
+    append_assoc (take n xs) (concat (first_chunks n k (drop n xs))) (drop (suc k * n) xs)
+    ∙ ap (λ (m : ℕ). take n xs ++ (concat (first_chunks n k (drop n xs)) ++ drop m xs)) e
+    ∙ ap (λ (l : List ℕ). take n xs ++ (concat (first_chunks n k (drop n xs)) ++ l)) (sym (drop-drop (k * n) n xs))
+    ∙ ap (λ (l : List ℕ). take n xs ++ l) (by_fours n k (drop n xs))
+    ∙ take-append-drop n xs
 
-    module _ {d : Draft} (h : Entered 0 (words_from 0 k ws) (draft_at 16 0 b) d) where
-      first : Entering ws 0 end blank k d
-      first = record { upto = l; done = h }
+-- a buffer before the first entry
+abbrev pub blank : MutBor (List ℕ) → Draft
+blank b = record { buf = b; at = 16; members = 0 }
 
-      pub rest_room : Rooms ws k (length ws - 1 - k) d
-      rest_room = entering_room front first (end - k) k end (omega arith) (omega arith) (omega arith)
+-- the words but the last, by fours and what is left
+pub record Split (t : Told) (fs : List (List ℕ)) (rest : List ℕ) : Type 0 where
+  pub some : 1 ≤ length t.layer.now
+  pub front : concat fs ++ rest ≡ take (length t.layer.now - 1) t.layer.now
+  pub each : length (concat fs) ≡ 4 * length fs
 
-      module _ {d₂ : Draft} (g : Entered k (words_from k (length ws - 1 - k) ws) d d₂) where
-        all : Entered 0 (words_from 0 end ws) blank d₂
-        all = (entering_turn front first (end - k) k end (omega arith) (omega arith) (omega arith) g).done
+pub split_is : {t : Told} → 1 ≤ length t.layer.now → {k : ℕ} → k ≡ length t.layer.now - 1 → {fs : List (List ℕ)} {rest : List ℕ}
+    → let xs = take k t.layer.now in fs ≡ first_chunks 4 (length xs / 4) xs → length fs ≡ length xs / 4 → rest ≡ drop (length xs / 4 * 4) xs → Split t fs rest
+split_is {t} some {k} e {fs} {rest} f n r =
+    let front : concat fs ++ rest ≡ take k t.layer.now =
+    ap₂ (λ (x : List (List ℕ)) (l : List ℕ). concat x ++ l) f r ∙ by_fours 4 (length (take k t.layer.now) / 4) (take k t.layer.now) in
+    record {
+      some = some;
+      front = front ∙ ap (λ (m : ℕ). take m t.layer.now) e;
+      each = omega (arith, n, length-append (concat fs) rest, ap length front, ap length r, length-drop (length (take k t.layer.now) / 4 * 4) (take k t.layer.now));
+    }
 
-        pub last_room : Room (last ∷ []) d₂
-        last_room = room_next all (last ∷ []) room_here
+module _ {t : Told} {fs : List (List ℕ)} {rest : List ℕ} (s : Split t fs rest) where
+  words_are : words_of t ≡ concat fs ++ (rest ++ t.last ∷ [])
+  words_are =
+      with_last_is t.layer.now t.last s.some ∙ ap (λ (l : List ℕ). l ++ t.last ∷ []) (sym s.front)
+      ∙ append_assoc (concat fs) rest (t.last ∷ [])
 
-        module _ {d₃ : Draft} (e : Entered (length ws - 1) (last ∷ []) d₂ d₃) where
-          last_entered : Entered 0 (with_last ws last) blank d₃
-          last_entered =
-              let n : end ≡ 0 + length (words_from 0 end ws) = omega (arith, length_part ws 0 end front.inside) in
-              subst (λ (x : List ℕ). Entered 0 x blank d₃) (sym words_are) (entered_more all (subst (λ (k : ℕ). Entered k (last ∷ []) d₂ d₃) n e))
+  long : length (concat fs) + length rest ≡ length t.layer.now - 1
+  long = sym (length-append (concat fs) rest) ∙ ap length s.front ∙ length-take-le (length t.layer.now - 1) t.layer.now (omega arith)
 
-          -- and the header
-          pub map_done : (N : ℕ) {b₄ : List ℕ} → b₄ ≡ sets d₃.bytes 0 (head_of N d₃.sum ((d₃.place - 16) / 12))
-              → (d₃.place ≡ map_len (with_last ws last)) × (b₄ ≡ sets b 0 (map_of N (with_last ws last)))
-          map_done N h =
-              let d = last_entered in
-              (d.place, map-put b N (with_last ws last) f.room.bytes d.bytes (omega (arith, d.sum)) d.place h)
+  module _ {b : MutBor (List ℕ)} (f : MapFits t b.now) where
+    room_all : Room 0 (concat fs ++ (rest ++ t.last ∷ [])) (blank b)
+    room_all =
+        subst (λ (l : List ℕ). Room 0 l (blank b)) words_are
+        (let l = length_with_last t.layer.now t.last in record { bytes = f.room; numbers = omega (arith, f.few, l); members = omega (arith, f.few, l) })
+
+    pub fours_room : Room 0 (concat fs) (blank b)
+    fours_room = room_first (rest ++ t.last ∷ []) room_all
+
+    module _ {d₁ : Draft} (h : Entered 0 (concat fs) (blank b) d₁) where
+      rest_all : Room (4 * length fs) (rest ++ t.last ∷ []) d₁
+      rest_all = room_next h (rest ++ t.last ∷ []) (omega (arith, s.each)) room_all
+
+      pub rest_room : Room (4 * length fs) rest d₁
+      rest_room = room_first (t.last ∷ []) rest_all
+
+      module _ {d₂ : Draft} (g : Entered (4 * length fs) rest d₁ d₂) where
+        pub last_room : Room (length t.layer.now - 1) (t.last ∷ []) d₂
+        last_room = room_next g (t.last ∷ []) (omega (arith, long, s.each)) rest_all
+
+        module _ {d₃ : Draft} (e : Entered (length t.layer.now - 1) (t.last ∷ []) d₂ d₃) where
+          all_entered : Entered 0 (words_of t) (blank b) d₃
+          all_entered =
+              subst (λ (l : List ℕ). Entered 0 l (blank b) d₃) (sym words_are)
+              (entered_more h (omega (arith, s.each)) (entered_more g (omega (arith, long, s.each)) e))
+
+          pub head_room : Headed t.n d₃
+          head_room =
+              record {
+                most = f.most;
+                behind = omega (arith, all_entered.at);
+                room = omega (arith, all_entered.at, f.room, entered_long all_entered);
+                few = omega (arith, all_entered.at, used_le (words_of t), length_with_last t.layer.now t.last, f.few);
+              }
+
+          pub map_done : {c : List ℕ} → c ≡ sets d₃.buf.now 0 (head_of t.n d₃.members ((d₃.at - 16) / 12)) → (d₃.at ≡ map_len (words_of t)) × (c ≡ sets b.now 0 (map_of t.n (words_of t)))
+          map_done h = let a = all_entered in (a.at, map-put b.now t.n (words_of t) f.room a.bytes (omega (arith, a.members)) a.at h)

@@ -1,18 +1,14 @@
 -- Layer 0 as the part of the store that the writer lends on, and the words that the map tells of.
-use mathlib.Core.List.{List, [], ◌∷◌}
-use mathlib.Core.Path.{◌≡◌, sym, ap, ◌∙◌}
-use Prim.Native.Nat.{ℕ, ◌+◌, ◌-◌, ◌*◌, ◌%◌, ◌^◌, ◌≤◌}
-use native.Mathlib.Omega.{arith}
-use lib.ListN.{length, get_or, take, drop}
-use lib.Seq.{get_or-drop}
+use Rattle.std.proofs.Common.{◌≡◌, ℕ, ◌+◌, ◌-◌, ◌*◌, ◌%◌, ◌^◌, ◌≤◌, List, [], ◌∷◌, length, get_or, take, drop, sym, ap, ◌∙◌, arith, get_or-drop}
 use Rattle.store.specs.Build.{room0}
 use Rattle.store.specs.Layout.{room, layer_len, layer_start, StoreOf}
 use Rattle.store.specs.Word.{Words64}
 use Rattle.store.proofs.Ends.{Lent0}
 use Rattle.map_format.specs.Steps.{with_last, used_at}
-use Rattle.map_format.proofs.Used.{length_with_last, used_none, used_cons}
+use Rattle.map_format.proofs.Used.{used_none, used_cons}
 use Rattle.map_write.specs.Map.{kept_from, told_words, used, map_len}
-use Rattle.map_write.specs.Steps.{EntryFits}
+use Rattle.map_write.specs.Steps.{Tells}
+use Rattle.map_write.specs.declared.Told.{Told}
 use Rattle.map_write.proofs.Words.{kept_with_last}
 
 -- ---- the words that are not zero
@@ -39,18 +35,20 @@ module _ {N : ℕ} {s : List ℕ} (z : StoreOf N s) {a : ℕ} (l : Lent0 N s a) 
   unfolding room
   some_lent = omega (arith, long_lent, z.some)
 
-  pub fits : (last : ℕ) {b : List ℕ} → map_len (with_last (lent s a) last) ≤ length b → EntryFits (lent s a) last b
-  unfolding room
-  fits last h =
-      record {
-        some = some_lent;
-        room = record { bytes = h; few = omega (arith, length_with_last (lent s a) last, long_lent, z.most) };
-      }
-
   -- with the last word cut they are the words of the definition
-  pub layer_words_are : Words64 s → {last : ℕ} → last ≡ get_or (lent s a) (length (lent s a) - 1) 0 % 2 ^ room0 N (length (lent s a) - 1)
+  layer_words_are : Words64 s → {last : ℕ} → last ≡ get_or (lent s a) (length (lent s a) - 1) 0 % 2 ^ room0 N (length (lent s a) - 1)
       → with_last (lent s a) last ≡ told_words N s
   layer_words_are small {last} last-is =
       ap (with_last (lent s a)) last-is
       ∙ kept_with_last N (lent s a) z.some long_lent (λ x. rw (l.words, get_or-drop (layer_start N 0) s x 0) (small (layer_start N 0 + x)))
       ∙ ap (kept_from N 0) l.words
+
+  pub tells : Words64 s → {t : Told} → t.n ≡ N → t.layer.now ≡ lent s a → t.last ≡ get_or (lent s a) (length (lent s a) - 1) 0 % 2 ^ room0 N (length (lent s a) - 1) → Tells s t
+  unfolding room
+  tells small {t} n-is layer-is last-is =
+      record {
+        store = rw n-is z;
+        some = rw layer-is some_lent;
+        few = rw layer-is (omega (arith, long_lent, z.most));
+        told = rw (n-is, layer-is) (layer_words_are small last-is);
+      }

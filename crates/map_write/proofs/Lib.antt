@@ -1,6 +1,5 @@
-pub mod Words
 pub mod Bytes
-pub mod Entries
-pub mod Loops
+pub mod Words
 pub mod Layer
+pub mod Entries
 pub mod Answers

@@ -1,16 +1,9 @@
 -- The words that a map tells of: bits at or past N taken as absent, which changes at most the last word.
-use mathlib.Core.List.{List, [], ◌∷◌, ◌++◌}
-use mathlib.Core.Path.{◌≡◌, refl, sym, ap, ap₂, ◌∙◌, subst}
-use Prim.Native.Nat.{ℕ, zero, suc, ◌+◌, ◌-◌, ◌*◌, ◌%◌, ◌^◌, ◌≤◌, ◌<◌}
-use native.Mathlib.Nat.{mod-lt, mod-eq_of_lt}
-use native.Mathlib.Omega.{arith}
-use lib.ListN.{length, get_or, take}
-use lib.Pow.{pow_pos}
+use Rattle.std.proofs.Common.{◌≡◌, ℕ, zero, suc, ◌+◌, ◌-◌, ◌*◌, ◌%◌, ◌^◌, ◌≤◌, ◌<◌, List, [], ◌∷◌, ◌++◌, length, get_or, take, refl, sym, ap, ap₂, ◌∙◌, subst, arith, mod-lt, mod-eq_of_lt, pow_pos}
 use Rattle.store.specs.Build.{room0, Kept}
 use Rattle.store.specs.Layout.{room, layer_len}
 use Rattle.store.specs.Word.{Words64}
 use Rattle.map_format.specs.Steps.{with_last}
-use Rattle.map_format.proofs.Cut.{cut_none}
 use Rattle.map_format.proofs.Used.{with_last_is}
 use Rattle.map_write.specs.Map.{kept_from}
 
@@ -46,6 +39,9 @@ kept_same N q (w ∷ ws) h =
     (kept_same N (suc q) ws (λ i. let f : q + suc i ≡ suc q + i = omega arith in subst (λ (k : ℕ). get_or ws i 0 < 2 ^ room0 N k) f (h (suc i))))
 
 -- ---- only the last word changes
+
+cut_none : (N q w : ℕ) → 64 * q + 64 ≤ N → w < 2 ^ 64 → w ≡ w % 2 ^ room0 N q
+cut_none N q w h g = let f : 64 ≡ room0 N q = omega arith in sym (mod-eq_of_lt g) ∙ ap (λ (k : ℕ). w % 2 ^ k) f
 
 kept_end : (N q w : ℕ) (ws : List ℕ) → 64 * (q + length ws) ≤ N → Words64 (w ∷ ws)
     → kept_from N q (w ∷ ws) ≡ take (length ws) (w ∷ ws) ++ get_or (w ∷ ws) (length ws) 0 % 2 ^ room0 N (q + length ws) ∷ []

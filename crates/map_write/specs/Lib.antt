@@ -1,4 +1,3 @@
 pub mod Map
-pub mod Answer
 pub mod Calls
 pub mod Steps
