@@ -1,11 +1,14 @@
 -- What the code of the private steps writes is the definition's edit, layer by layer.
-use mathlib.Core.Bool.{Bool, true, false}
+use mathlib.Core.Bool.{Bool, true, false, not, true≢false}
 use mathlib.Core.List.{List}
-use mathlib.Core.Logic.{◌≢◌, ⊎_elim}
+use mathlib.Core.Logic.{◌≢◌, ◌⊎◌, inl, inr, ⊎_elim}
 use mathlib.Core.Path.{◌≡◌, refl, sym, ap, ◌∙◌}
 use Prim.Native.Nat.{ℕ, zero, suc, ◌+◌, ◌-◌, ◌/◌, ◌%◌, ◌≤◌, ◌<◌}
 use native.Mathlib.Nat.{eq-or-lt_of_le, le_of_suc-le-suc}
+use native.Mathlib.Decide.{ℕ_discrete}
 use native.Mathlib.Omega.{arith}
+use borrow.Author.Tests.{ne_eqb}
+use lib.Dec.{eqb}
 use lib.ListN.{length, set}
 use Rattle.util.specs.Word.{change}
 use Rattle.store.specs.Layout.{top, layer_start, cap}
@@ -15,10 +18,26 @@ use Rattle.store.proofs.TopLayer.{top_high}
 use Rattle.store.proofs.Words.{word-put-same}
 use Rattle.set_member.specs.Place.{Placed}
 use Rattle.set_member.proofs.Spots.{spot}
-use Rattle.set_edit.specs.Edit.{edit, edits, word_left, climb}
+use Rattle.set_edit.specs.Edit.{edit, edits, word_left, climb, reach}
 use Rattle.set_edit.specs.Steps.{Edited, Begun, Climbing, Ended}
 use Rattle.set_edit.proofs.Edits.{length-edits, cap-edits, word-edits-same}
 use Rattle.set_edit.proofs.Moves.{climb-on, climb_stop, climb-top}
+
+-- which of the two is asked, by a const parameter as the logic holds it
+abbrev pub asked : ℕ → Bool
+asked n = not (eqb n 0)
+
+asked_off : (n : ℕ) → asked n ≡ false → n ≡ 0
+asked_off n e = go (ℕ_discrete n 0)
+  where
+    go : Dec (n ≡ 0) → n ≡ 0
+    go (yes z) = z
+    go (no z) = absurd (true≢false (sym (ap not (ne_eqb n 0 z)) ∙ e))
+
+-- what holds where it is no clearing, or the word is 0
+pub kept_none : {n r : ℕ} → ((n ≡ 0) × (r ≡ 0)) ⊎ (n ≢ 0) → asked n ≡ false → r ≡ 0
+kept_none (inl p) e = p.1
+kept_none {n} (inr h) e = absurd (h (asked_off n e))
 
 -- a layer number is a small number
 pub layer_lt : {s : List ℕ} {N i k : ℕ} → Placed s N i k → k < 4
@@ -69,11 +88,7 @@ module _ (on : Bool) {s : List ℕ} {N i : ℕ} (p : Placed s N i 0) where
   pub first : {u : List ℕ} {r : ℕ} → Edited on s N i 0 u r → Begun on s N i 1 u
   first d = one_more_lem on none_yet (omega arith) d
 
--- all layers
-pub marked : {s : List ℕ} {N i k : ℕ} {t : List ℕ} → Begun true s N i k t → k ≡ suc (top N) → Ended true s N i (suc (top N)) t k
-marked {s} {N} {i} g e = record { memory = g.memory ∙ ap (edits true N s i) e; layers = e }
-
--- ---- the climb: the layers below k kept no bit
+-- ---- the way up: where bits are cleared, the layers below k kept none
 
 climb_past : (N : ℕ) (s : List ℕ) (i k d : ℕ) → ((j : ℕ) → j < k → word_left N s i j ≡ 0) → climb N s i 0 (k + d) ≡ climb N s i k d
 climb_past N s i zero d h = let e : 0 + d ≡ d = omega arith in ap (climb N s i 0) e
@@ -81,32 +96,46 @@ climb_past N s i (suc k) d h =
     let e : suc k + d ≡ k + suc d = omega arith in
     ap (climb N s i 0) e ∙ climb_past N s i k (suc d) (λ j l. h j (omega arith)) ∙ climb-on N s i k d (h k (omega arith))
 
-module _ {s : List ℕ} {N i k : ℕ} {t : List ℕ} (g : Climbing s N i k t) where
+-- where it ends: all layers are set, or the climb is over
+reach_top : (set : Bool) (N : ℕ) (s : List ℕ) (i : ℕ) → (set ≡ false → (j : ℕ) → j < suc (top N) → word_left N s i j ≡ 0) → suc (top N) ≡ reach set N s i
+unfolding reach
+reach_top true N s i h = refl
+reach_top false N s i h =
+    let f : top N ≡ top N + 0 = omega arith in
+    sym (ap (climb N s i 0) f ∙ climb_past N s i (top N) 0 (λ j l. h refl j (omega arith)) ∙ climb-top N s i (top N))
+
+reach_kept : (set : Bool) (N : ℕ) (s : List ℕ) (i k : ℕ) → k ≤ top N → set ≡ false → (set ≡ false → (j : ℕ) → j < k → word_left N s i j ≡ 0)
+    → word_left N s i k ≢ 0 → suc k ≡ reach set N s i
+unfolding reach
+reach_kept true N s i k l e h n = absurd (true≢false e)
+reach_kept false N s i k l e h n =
+    let e : top N ≡ k + (top N - k) = omega arith in
+    sym (ap (climb N s i 0) e ∙ climb_past N s i k (top N - k) (h refl) ∙ climb_stop N s i k (top N - k) n)
+
+module _ {set : Bool} {s : List ℕ} {N i k : ℕ} {t : List ℕ} (g : Climbing set s N i k t) where
   -- there is no layer left
-  pub climb-top_end : k ≡ suc (top N) → Ended false s N i (climb N s i 0 (top N)) t k
-  climb-top_end e =
-      let f : top N ≡ top N + 0 = omega arith in
-      let c = ap (climb N s i 0) f ∙ climb_past N s i (top N) 0 (λ j l. g.zeros j (omega arith)) ∙ climb-top N s i (top N) in
-      record { memory = g.begun.memory ∙ ap (edits false N s i) (e ∙ sym c); layers = e ∙ sym c }
+  pub reached : {r : ℕ} → k ≡ suc (top N) → r ≡ suc (top N) → Ended set s N i (reach set N s i) t r
+  reached e r-is =
+      let c = reach_top set N s i (λ f j l. g.zeros f j (omega arith)) in
+      record { memory = g.begun.memory ∙ ap (edits set N s i) (e ∙ c); layers = r-is ∙ c }
 
-  module _ (h : k ≤ top N) {u : List ℕ} {r : ℕ} (d : Edited false t N i k u r) where
-    word-left : r ≡ word_left N s i k
+  module _ (h : k ≤ top N) {u : List ℕ} {r : ℕ} (d : Edited set t N i k u r) where
+    left_is : set ≡ false → r ≡ word_left N s i k
     unfolding word_left
-    word-left = leaves false g.begun h d
+    left_is e = leaves set g.begun h d ∙ ap (λ (b : Bool). change b (word N s k (anc i k / 64)) (anc i k % 64)) e
 
-    -- the word keeps no bit, so the next layer is cleared
-    pub climb-more : r ≡ 0 → Climbing s N i (suc k) u
-    climb-more z = record { begun = one_more_lem false g.begun h d; zeros = below }
+    -- the next layer is written, where one is cleared because the word keeps no bit
+    pub climb-more : (set ≡ false → r ≡ 0) → Climbing set s N i (suc k) u
+    climb-more z = record { begun = one_more_lem set g.begun h d; zeros = below }
       where
-        below : (j : ℕ) → j < suc k → word_left N s i j ≡ 0
-        below j l = ⊎_elim (λ (e : j ≡ k). ap (word_left N s i) e ∙ sym word-left ∙ z) (λ (e : j < k). g.zeros j e) (eq-or-lt_of_le (le_of_suc-le-suc l))
+        below : set ≡ false → (j : ℕ) → j < suc k → word_left N s i j ≡ 0
+        below f j l = ⊎_elim (λ (e : j ≡ k). ap (word_left N s i) e ∙ sym (left_is f) ∙ z f) (λ (e : j < k). g.zeros f j e) (eq-or-lt_of_le (le_of_suc-le-suc l))
 
-    -- it keeps one
-    pub climb_ends : r ≢ 0 → Ended false s N i (climb N s i 0 (top N)) u (suc k)
-    climb_ends n =
-        let e : top N ≡ k + (top N - k) = omega arith in
-        let c = ap (climb N s i 0) e ∙ climb_past N s i k (top N - k) g.zeros ∙ climb_stop N s i k (top N - k) (λ z. n (word-left ∙ z)) in
-        record { memory = (one_more_lem false g.begun h d).memory ∙ ap (edits false N s i) (sym c); layers = sym c }
+    -- a word that is cleared keeps one
+    pub climb_ends : set ≡ false → r ≢ 0 → Ended set s N i (reach set N s i) u (suc k)
+    climb_ends f n =
+        let c = reach_kept set N s i k h f g.zeros (λ z. n (left_is f ∙ z)) in
+        record { memory = (one_more_lem set g.begun h d).memory ∙ ap (edits set N s i) c; layers = c }
 
-pub climb_none : {s : List ℕ} {N i : ℕ} → Placed s N i 0 → Climbing s N i 0 s
-climb_none p = record { begun = none_yet false p; zeros = λ j l. absurd (omega arith) }
+pub climb_none : (set : Bool) {s : List ℕ} {N i : ℕ} → Placed s N i 0 → Climbing set s N i 0 s
+climb_none set p = record { begun = none_yet set p; zeros = λ f j l. absurd (omega arith) }

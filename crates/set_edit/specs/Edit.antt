@@ -34,6 +34,10 @@ climb N s i k (suc d) = let r = climb N s i (suc k) d in cond (eqb (word_left N 
 unfoldable pub remove_layers : ℕ → List ℕ → ℕ → ℕ
 remove_layers N s i = let r = climb N s i 0 (top N) in cond (holds N s i) r 0
 
+-- the layers that setting, or clearing, the bit of i writes where no other bit of its layer-0 word is set
+unfoldable pub reach : Bool → ℕ → List ℕ → ℕ → ℕ
+reach set N s i = let r = climb N s i 0 (top N) in cond set (suc (top N)) r
+
 -- the layers that adding, or removing, writes
 abbrev pub layers_of : Bool → ℕ → List ℕ → ℕ → ℕ
 layers_of true = add_layers

@@ -14,10 +14,10 @@ pub record Begun (set : Bool) (s : List ℕ) (N i k : ℕ) (t : List ℕ) : Type
   pub placed : Placed s N i 0
   pub memory : t ≡ edits set N s i k
 
--- it is cleared there, and none of their words keeps a bit
-pub record Climbing (s : List ℕ) (N i k : ℕ) (t : List ℕ) : Type 0 where
-  pub begun : Begun false s N i k t
-  pub zeros : (j : ℕ) → j < k → word_left N s i j ≡ 0
+-- and where it is cleared none of their words keeps a bit
+pub record Climbing (set : Bool) (s : List ℕ) (N i k : ℕ) (t : List ℕ) : Type 0 where
+  pub begun : Begun set s N i k t
+  pub zeros : set ≡ false → (j : ℕ) → j < k → word_left N s i j ≡ 0
 
 -- m layers were written, and r says so
 pub record Ended (set : Bool) (s : List ℕ) (N i m : ℕ) (t : List ℕ) (r : ℕ) : Type 0 where

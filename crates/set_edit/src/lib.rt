@@ -8,7 +8,7 @@ ghost use Rattle.store.specs.Answer.{asked_paper, did_paper};
 ghost use Rattle.store.specs.Layout.{top, max_cap, StoreOf};
 ghost use Rattle.set_member.specs.Place.{Placed, Inside};
 ghost use Rattle.set_edit.specs.Calls.{add_of, remove_of, all_below, add_all, add_list_of};
-ghost use Rattle.set_edit.specs.Edit.{climb};
+ghost use Rattle.set_edit.specs.Edit.{reach};
 ghost use Rattle.set_edit.specs.Steps.{Edited, Begun, Climbing, Ended, Moved};
 
 use set_member::Place;
@@ -43,68 +43,39 @@ fn edit(store: &mut [u64], n: usize, id: u32, k: usize, on: bool) -> u64
     w
 }
 
-// The bit over an id set in every layer above 0, where layer 0 has it; answers how many layers have it now.
-fn mark(store: &mut [u64], n: usize, id: u32) -> usize
-    requires { (s : List ℕ) × Begun true s n id 1 store.old }
-    ensures { (s : List ℕ) → Begun true s n id 1 store.old → Ended true s n id (suc (top n)) store.new result }
+// The bit over an id set, or cleared, in the layers above 0, where layer 0 has it so; answers how many layers have it so now. It is set in
+// every layer, and cleared as far as words become 0.
+fn above<const ON: bool>(store: &mut [u64], n: usize, id: u32) -> usize
+    requires { (s : List ℕ) × Climbing ON s n id 1 store.old }
+    ensures { (s : List ℕ) → Climbing ON s n id 1 store.old → Ended ON s n id (reach ON n s id) store.new result }
 {
-    let t = store::top(n);
-    let mut k = 1usize;
-    while k <= t {
-        edit(store, n, id, k, true);
-        k += 1;
-    }
-    k
-}
-
-// The bit over an id cleared in the layers above 0 while words become 0, where layer 0 lost it and its last one; answers how many
-// layers lost it.
-fn unmark(store: &mut [u64], n: usize, id: u32) -> usize
-    requires { (s : List ℕ) × Climbing s n id 1 store.old }
-    ensures { (s : List ℕ) → Climbing s n id 1 store.old
-        → Ended false s n id (climb n s id 0 (top n)) store.new result }
-{
-    let t = store::top(n);
-    let mut k = 1usize;
-    while k <= t {
-        if edit(store, n, id, k, false) != 0 {
+    let layers = store::top(n) + 1;
+    for k in 1..layers {
+        let w = edit(store, n, id, k, ON);
+        if !ON && w != 0 {
             return k + 1;
         }
-        k += 1;
     }
-    k
+    layers
 }
 
-// The crate's `add` and `add_slow`: layer 0 or, where its old word was 0, every layer is written; answers how many are.
-fn add_in(store: &mut [u64], place: Place, id: u32) -> usize
+// The crate's `add` and `add_slow`, and its `remove`: layer 0 is written where the bit is not so, and the layers above it where the word has
+// no other id; answers how many are written.
+fn moved<const ON: bool>(store: &mut [u64], place: Place, id: u32) -> usize
     requires { Inside store.old id place }
-    ensures { Moved true store.old place.n id store.new result }
+    ensures { Moved ON store.old place.n id store.new result }
 {
-    let w = util::with_bit(place.word, id as usize, true);
-    if w == place.word {
+    let old = place.word;
+    let w = util::with_bit(old, id as usize, ON);
+    if w == old {
         return 0;
     }
     set_id_word(store, place.start, id, w);
-    if place.word != 0 {
+    let others = old & w;
+    if others != 0 {
         return 1;
     }
-    mark(store, place.n, id)
-}
-
-// The crate's `remove`: layer 0 and, while words become 0, the layers above are written; answers how many are.
-fn remove_in(store: &mut [u64], place: Place, id: u32) -> usize
-    requires { Inside store.old id place }
-    ensures { Moved false store.old place.n id store.new result }
-{
-    let w = util::with_bit(place.word, id as usize, false);
-    if w == place.word {
-        return 0;
-    }
-    set_id_word(store, place.start, id, w);
-    if w != 0 {
-        return 1;
-    }
-    unmark(store, place.n, id)
+    above::<ON>(store, place.n, id)
 }
 
 // Adds an id; answers whether it was held already.
@@ -112,7 +83,7 @@ pub fn add(store: &mut [u64], id: u32) -> Result<bool, Refusal>
     ensures { Settled asked_paper (add_of store.old id) result store.new }
 {
     let place = set_member::locate(store, id)?;
-    Ok(add_in(store, place, id) == 0)
+    Ok(moved::<true>(store, place, id) == 0)
 }
 
 // Removes an id; answers whether it was held.
@@ -120,7 +91,7 @@ pub fn remove(store: &mut [u64], id: u32) -> Result<bool, Refusal>
     ensures { Settled asked_paper (remove_of store.old id) result store.new }
 {
     match set_member::locate(store, id) {
-        Ok(place) => Ok(remove_in(store, place, id) != 0),
+        Ok(place) => Ok(moved::<false>(store, place, id) != 0),
         Err(Refusal::Id) => Ok(false),
         Err(no) => Err(no),
     }
@@ -132,13 +103,7 @@ fn all_below(ids: &[u32], n: usize) -> bool
     ensures { result ≡ all_below n ids.now }
 {
     let limit = n as u32;
-    let mut all = true;
-    let mut i = 0;
-    while i < ids.len() {
-        all = all & (ids[i] < limit);
-        i += 1;
-    }
-    all
+    ids.iter().copied().fold(true, |all, id| all & (id < limit))
 }
 
 // Adds every id of a list that has room for all.
@@ -147,12 +112,9 @@ fn add_all(store: &mut [u64], n: usize, ids: &[u32])
     ensures { store.new ≡ add_all n store.old ids.now }
 {
     let a = store::start(store.len(), n, 0);
-    let mut i = 0;
-    while i < ids.len() {
-        let id = ids[i];
+    for &id in ids {
         let word = store[store::id_word(a, id)];
-        add_in(store, Place { n, start: a, word }, id);
-        i += 1;
+        moved::<true>(store, Place { n, start: a, word }, id);
     }
 }
 

@@ -1,17 +1,9 @@
-use mathlib.Core.Path.{refl}
-use native.Mathlib.Omega.{arith}
-use Rattle.set_edit.proofs.Answers.{below_next, below_all}
+-- `all_below` meets its contract.
+use Rattle.std.proofs.Common.{rules, ◌≡◌, ◌∙◌, ◌&&◌, fold, true, nat_lt}
+use Rattle.set_edit.proofs.Answers.{fold_below}
 use Rattle.set_edit.proofs.all_below.Goals as goal
-
-pub loop-i-init : goal.loop-i-init
-loop-i-init c = (omega arith, refl)
-
-pub loop-i-preserved : goal.loop-i-preserved
-loop-i-preserved c =
-    let a = c.args in
-    (omega arith, below_next a.n a.ids.now c.loop-i.i c.loop-i.all _ (omega arith) refl c.loop-i.invariant.1)
 
 pub returns : goal.returns
 returns c =
-    let a = c.args in
-    below_all a.n a.ids.now c.loop-i.i c.loop-i.all (omega arith) c.loop-i.invariant.1
+    let e : c.fold.result ≡ fold (λ all i. all && nat_lt i c.args.n) true c.args.ids.now = search rules in
+    e ∙ fold_below c.args.n c.args.ids.now
