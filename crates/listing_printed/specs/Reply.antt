@@ -21,6 +21,10 @@ reply_word letter held = word_by (eqb letter 97) (eqb letter 114) held
 abbrev pub refused_text : List ℕ
 refused_text = 114 ∷ 101 ∷ 102 ∷ 117 ∷ 115 ∷ 101 ∷ 100 ∷ []
 
+-- that and the number, from the blank before it to the line's end
+abbrev pub refused_end : ℕ → List ℕ
+refused_end n = 32 ∷ (refused_text ++ (32 ∷ (decimal_of n ++ (10 ∷ []))))
+
 abbrev pub answer_text : ℕ → Result Bool Refusal → List ℕ
 answer_text letter (Ok held) = reply_word letter held
 answer_text letter (Err why) = refused_text ++ (32 ∷ decimal_of (number why))

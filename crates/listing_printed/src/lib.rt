@@ -2,8 +2,9 @@
 #![tactic(auto)]
 
 ghost use Rattle.std.specs.Prelude.{◌≡◌};
+ghost use Rattle.store.specs.Answer.{number};
 ghost use Rattle.text_out.specs.Out.{Puts};
-ghost use Rattle.listing_printed.specs.Reply.{end_text, reply_of};
+ghost use Rattle.listing_printed.specs.Reply.{refused_end, end_text, reply_of};
 
 use store::Refusal;
 use text_out::Out;
@@ -23,6 +24,15 @@ fn word(letter: u8, yes: bool) -> &'static [u8]
     }
 }
 
+// ` refused` and the number, to the line's end.
+pub fn put_refused(out: &mut Out, why: Refusal)
+    ensures { Puts out.old out.new (refused_end (number why)) }
+{
+    out.put_all(b" refused ");
+    out.put_number(u64::from(u32::from(why)));
+    out.put_byte(b'\n');
+}
+
 // What is printed for a letter and an id that were answered.
 pub fn put_reply(out: &mut Out, letter: u8, id: u32, answer: Result<bool, Refusal>)
     ensures { Puts out.old out.new (reply_of letter id answer) }
@@ -32,10 +42,6 @@ pub fn put_reply(out: &mut Out, letter: u8, id: u32, answer: Result<bool, Refusa
     out.put_number(u64::from(id));
     match answer {
         Ok(yes) => out.put_all(word(letter, yes)),
-        Err(why) => {
-            out.put_all(b" refused ");
-            out.put_number(u64::from(u32::from(why)));
-            out.put_byte(b'\n');
-        }
+        Err(why) => put_refused(out, why),
     }
 }

@@ -1,5 +1,4 @@
 -- The pieces of the line, one behind the other.
-use Rattle.std.proofs.Common.{◌∙◌}
 use Rattle.text_out.proofs.Puts.{puts-append}
 use Rattle.listing_printed.specs.Reply.{end_text, reply_of}
 use Rattle.listing_printed.proofs.put_reply.Goals as goal
@@ -15,10 +14,7 @@ returns-in-Ok c =
 pub returns-in-Err : goal.returns-in-Err
 unfolding reply_of end_text
 returns-in-Err c =
-    let number_is = c.from-in-Err-2.ensures ∙ c.from-in-Err.ensures in
     rw c.in-Err.is
     (puts-append c.put_byte.ensures
     (puts-append c.put_byte-2.ensures
-    (puts-append (rw c.from.ensures at c.put_number.ensures)
-    (puts-append c.put_all-in-Err.ensures
-    (puts-append (rw number_is at c.put_number-in-Err.ensures) c.put_byte-in-Err.ensures)))))
+    (puts-append (rw c.from.ensures at c.put_number.ensures) c.put_refused.ensures)))
