@@ -1,1 +1,1 @@
-mod Merged
+pub mod Merged

@@ -13,7 +13,7 @@ pub extern "C" fn fen_bitor_assign(store: &mut [u64], other: &[u64]) -> Answer
     ensures value { result ≡ answer_of (assign_of 17 store.old other.now).numbers }
     ensures leaves { Leaves 17 store.old other.now store.new }
 {
-    export_answer::did(ops::bitor_assign(store, other))
+    Answer::from(ops::bitor_assign(store, other))
 }
 
 #[unsafe(no_mangle)]
@@ -21,7 +21,7 @@ pub extern "C" fn fen_bitand_assign(store: &mut [u64], other: &[u64]) -> Answer
     ensures value { result ≡ answer_of (assign_of 16 store.old other.now).numbers }
     ensures leaves { Leaves 16 store.old other.now store.new }
 {
-    export_answer::did(ops::bitand_assign(store, other))
+    Answer::from(ops::bitand_assign(store, other))
 }
 
 #[unsafe(no_mangle)]
@@ -29,5 +29,5 @@ pub extern "C" fn fen_bitxor_assign(store: &mut [u64], other: &[u64]) -> Answer
     ensures value { result ≡ answer_of (assign_of 18 store.old other.now).numbers }
     ensures leaves { Leaves 18 store.old other.now store.new }
 {
-    export_answer::did(ops::bitxor_assign(store, other))
+    Answer::from(ops::bitxor_assign(store, other))
 }
