@@ -8,44 +8,33 @@ ghost use Rattle.export_cursor.specs.Ten.{prefix_of, cursor_of, cursor_words};
 use walk::Cursor;
 
 // A prefix word as a prefix, which has 32 bits. A greater number counts as the greatest of these; neither is a prefix that a walk takes.
+#[tactic(auto, unfolding(crate::specs::Ten::prefix_of))]
 fn prefix_in(w: u64) -> u32
     ensures { result ≡ prefix_of w }
 {
-    if w < 4294967296 { w as u32 } else { 4294967295 }
+    u32::try_from(w).unwrap_or(u32::MAX)
 }
 
 // The cursor that ten words hold: masks in words 0 to 3, prefixes in words 5 to 7.
+#[tactic(auto, unfolding(crate::specs::Ten::cursor_of))]
 pub fn cursor_in(words: &[u64; 10]) -> Cursor
     ensures { result ≡ cursor_of words.now }
 {
+    let [m0, m1, m2, m3, _, p0, p1, p2, ..] = *words;
     Cursor {
-        masks: [words[0], words[1], words[2], words[3]],
-        prefix: [
-            prefix_in(words[5]),
-            prefix_in(words[6]),
-            prefix_in(words[7]),
-        ],
+        masks: [m0, m1, m2, m3],
+        prefix: [prefix_in(p0), prefix_in(p1), prefix_in(p2)],
     }
 }
 
 // A cursor and the reads written to its words. Words 4 and 8 are room for a fifth layer and stay.
+#[tactic(auto, unfolding(crate::specs::Ten::cursor_words))]
 pub fn cursor_out(words: &mut [u64; 10], c: Cursor, reads: u64)
     ensures { words.new ≡ cursor_words words.old c reads }
 {
-    let m = c.masks;
-    let p = c.prefix;
-    let w4 = words[4];
-    let w8 = words[8];
+    let [m0, m1, m2, m3] = c.masks;
+    let [p0, p1, p2] = c.prefix;
     *words = [
-        m[0],
-        m[1],
-        m[2],
-        m[3],
-        w4,
-        p[0] as u64,
-        p[1] as u64,
-        p[2] as u64,
-        w8,
-        reads,
+        m0, m1, m2, m3, words[4], p0 as u64, p1 as u64, p2 as u64, words[8], reads,
     ];
 }
