@@ -1,13 +1,18 @@
 -- What a quick member is: next hands it out at any budget.
-use mathlib.Core.Bool.{Bool, true, false, cond, ◌&&◌, true≢false}
+use mathlib.Core.Bool.{Bool, true, false, ◌&&◌}
 use mathlib.Core.List.{List, [], ◌∷◌}
-use mathlib.Core.Path.{◌≡◌, refl, sym, ap, ap₂, ◌∙◌}
+use mathlib.Core.Path.{◌≡◌, refl, ap, ap₂, ◌∙◌}
 use Prim.Native.Nat.{ℕ, suc, ◌+◌, ◌-◌, ◌^◌, ◌<◌, min}
 use native.Mathlib.Omega.{arith}
 use borrow.Author.Tests.{ltb-true}
 use lib.Count.{count_trailing_zeros}
 use lib.Dec.{ltb}
-use lib.ListN.{get_or}
+use Rattle.std.specs.Prelude.{Result, is_ok}
+use Rattle.store.specs.Answer.{tested}
+use Rattle.store.specs.declared.Refusal.{Refusal}
+use lib.ListN.{length, get_or, set, length-set}
+use borrow.Author.Rules.{rules}
+use Rattle.std.proofs.lemmas.Slice.Eq.{text_from_reads}
 use Rattle.util.proofs.Same.{both}
 use Rattle.store.specs.Layout.{max_cap, top_most, top, cap, is_store}
 use Rattle.store.proofs.TopLayer.{top_is}
@@ -18,8 +23,21 @@ use Rattle.walk.specs.declared.Next.TheVariants.{Member}
 use Rattle.walk.proofs.Cursors.{Low, fine_of}
 use Rattle.walk.proofs.Turns.{next-gives}
 use Rattle.export_cursor.specs.Ten.{prefix_of, cursor_of, cursor_words}
-use Rattle.export_quick.specs.Handing.{ready_of, handed_id, handed_of, quick_of, quick_words}
-use Rattle.export_quick.specs.declared.Hand.{Hand}
+use Rattle.export_quick.specs.Handing.{ready_of, handed_id, handed_of}
+
+-- the store test goes through exactly for a store
+pub is_ok_store : (s : List ℕ) (r : Result ℕ Refusal) → r ≡ tested s → is_ok r ≡ is_store s
+is_ok_store s r e = go (is_store s) refl
+  where
+    go : (b : Bool) → is_store s ≡ b → is_ok r ≡ is_store s
+    go true h = rw (e, h)
+    go false h = rw (e, h)
+
+-- ten words of which the first and the last are written
+pub words_handed : (l : List ℕ) (a : ℕ) → length l ≡ 10
+    → set (set l 0 a) 9 0 ≡ a ∷ get_or l 1 0 ∷ get_or l 2 0 ∷ get_or l 3 0 ∷ get_or l 4 0 ∷ get_or l 5 0 ∷ get_or l 6 0 ∷ get_or l 7 0 ∷ get_or l 8 0 ∷ 0 ∷ []
+words_handed l a h =
+    text_from_reads (set (set l 0 a) 9 0) _ (simp length-set h) (search rules)
 
 -- the three words where the prefixes stand
 abbrev three : List ℕ → List ℕ
@@ -73,23 +91,3 @@ module _ (s l : List ℕ) (h : ready_of s l ≡ true) where
       ap
       (λ (p : List ℕ). (m - 2 ^ count_trailing_zeros 64 m) ∷ get_or l 1 0 ∷ get_or l 2 0 ∷ get_or l 3 0 ∷ get_or l 4 0 ∷ get_or p 0 0 ∷ get_or p 1 0 ∷ get_or p 2 0 ∷ get_or l 8 0 ∷ 0 ∷ [])
       same_prefixes
-
--- ---- by the answer
-
-abbrev told : Bool → ℕ → Hand
-told b n = cond b (record { some = true; id = n }) (record { some = false; id = 0 })
-
-on : (b : Bool) (l m : List ℕ) (n : ℕ) {q : Hand} {w : List ℕ} → q ≡ told b n → w ≡ cond b m l → q.some ≡ true → (b ≡ true) × (q.id ≡ n) × (w ≡ m)
-on true l m n e f h = (refl, ap (λ (q : Hand). q.id) e, f)
-on false l m n e f h = absurd (true≢false (sym h ∙ ap (λ (q : Hand). q.some) e))
-
-off : (b : Bool) (l m : List ℕ) (n : ℕ) {q : Hand} {w : List ℕ} → q ≡ told b n → w ≡ cond b m l → q.some ≡ false → w ≡ l
-off true l m n e f h = absurd (true≢false (sym (ap (λ (q : Hand). q.some) e) ∙ h))
-off false l m n e f h = f
-
-module _ (s l : List ℕ) {q : Hand} {w : List ℕ} (e : q ≡ quick_of s l) (f : w ≡ quick_words s l) where
-  pub quick_some : q.some ≡ true → (ready_of s l ≡ true) × (q.id ≡ handed_id l) × (w ≡ handed_of l)
-  quick_some = on (ready_of s l) l (handed_of l) (handed_id l) e f
-
-  pub quick_none : q.some ≡ false → w ≡ l
-  quick_none = off (ready_of s l) l (handed_of l) (handed_id l) e f
