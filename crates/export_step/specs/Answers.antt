@@ -1,5 +1,6 @@
 -- What a call of the walk says in two numbers, and what it leaves in the ten words of its cursor. Every definition here computes.
 use Rattle.std.specs.Prelude.{cond, List, ℕ, eqb, length}
+use Rattle.store.specs.Answer.{number}
 use Rattle.walk.specs.declared.Cursor.{Cursor}
 use Rattle.walk.specs.declared.Next.{Next}
 use Rattle.walk.specs.declared.Next.TheVariants.{Member, Paused, End, Refused}
@@ -14,14 +15,14 @@ use Rattle.export_step.specs.declared.StepAnswer.{StepAnswer}
 
 -- 0 and the refusal's number, 1 and the member, 2 for paused, 3 for the end
 abbrev pub step_of : Next → StepAnswer
-step_of (Refused n) = record { which = 0; value = n }
+step_of (Refused e) = record { which = 0; value = number e }
 step_of (Member v) = record { which = 1; value = v }
 step_of Paused = record { which = 2; value = 0 }
 step_of End = record { which = 3; value = 0 }
 
 -- 0 and the refusal's number; 2 for paused, 3 for the end, 4 for full, and how many members
 abbrev pub stop_of : Stop → ℕ → StepAnswer
-stop_of (StopRefused n) k = record { which = 0; value = n }
+stop_of (StopRefused e) k = record { which = 0; value = number e }
 stop_of StopPaused k = record { which = 2; value = k }
 stop_of StopEnd k = record { which = 3; value = k }
 stop_of Full k = record { which = 4; value = k }
