@@ -12,26 +12,21 @@ pub extern "C" fn fen_start(store: &[u64], cursor: &mut [u64; 10]) -> StepAnswer
     ensures value { result ≡ moved_of (walk_started store.now cursor.old) }
     ensures cursor_after { cursor.new ≡ cursor_after (walk_started store.now cursor.old) cursor.old }
 {
-    let c = export_cursor::cursor_in(cursor);
-    let s = c.start(store);
+    let s = export_cursor::cursor_in(cursor).start(store);
     export_step::told_step(cursor, s)
 }
 
 #[unsafe(no_mangle)]
+#[tactic(auto, using(crate::proofs::Quick::quick_told, crate::proofs::Quick::quick_left))]
 pub extern "C" fn fen_next(store: &[u64], cursor: &mut [u64; 10], budget: u64) -> StepAnswer
     ensures value { result ≡ moved_of (walk_stepped store.now cursor.old budget) }
     ensures cursor_after { let c = cursor.old in
         cursor.new ≡ cursor_after (walk_stepped store.now c budget) c }
 {
-    let h = export_quick::quick(store, cursor);
-    if h.some {
-        return StepAnswer {
-            which: 1,
-            value: h.id,
-        };
+    if let Some(value) = export_quick::quick(store, cursor) {
+        return StepAnswer { which: 1, value };
     }
-    let c = export_cursor::cursor_in(cursor);
-    let s = c.next(store, budget);
+    let s = export_cursor::cursor_in(cursor).next(store, budget);
     export_step::told_step(cursor, s)
 }
 
@@ -48,7 +43,6 @@ pub extern "C" fn fen_fill(
     ensures out_after { let o = out.old in
         out.new ≡ out_of (walk_filled store.now cursor.old budget o) o }
 {
-    let c = export_cursor::cursor_in(cursor);
-    let b = walk_fill::fill(c, store, budget, out);
+    let b = walk_fill::fill(export_cursor::cursor_in(cursor), store, budget, out);
     export_step::told_batch(cursor, b)
 }
