@@ -13,7 +13,7 @@ use export_answer::Answer;
 pub extern "C" fn fen_contains(store: &[u64], id: u32) -> Answer
     ensures { result ≡ answer_of (contains_of store.now id).numbers }
 {
-    export_answer::asked(set_member::contains(store, id))
+    Answer::from(set_member::contains(store, id))
 }
 
 #[unsafe(no_mangle)]
@@ -21,7 +21,7 @@ pub extern "C" fn fen_add(store: &mut [u64], id: u32) -> Answer
     ensures value { result ≡ answer_of (add_of store.old id).numbers }
     ensures store_after { store.new ≡ (add_of store.old id).lent }
 {
-    export_answer::asked(set_edit::add(store, id))
+    Answer::from(set_edit::add(store, id))
 }
 
 #[unsafe(no_mangle)]
@@ -29,7 +29,7 @@ pub extern "C" fn fen_remove(store: &mut [u64], id: u32) -> Answer
     ensures value { result ≡ answer_of (remove_of store.old id).numbers }
     ensures store_after { store.new ≡ (remove_of store.old id).lent }
 {
-    export_answer::asked(set_edit::remove(store, id))
+    Answer::from(set_edit::remove(store, id))
 }
 
 #[unsafe(no_mangle)]
@@ -37,12 +37,12 @@ pub extern "C" fn fen_add_list(store: &mut [u64], ids: &[u32]) -> Answer
     ensures value { result ≡ answer_of (add_list_of store.old ids.now).numbers }
     ensures store_after { store.new ≡ (add_list_of store.old ids.now).lent }
 {
-    export_answer::did(set_edit::add_list(store, ids))
+    Answer::from(set_edit::add_list(store, ids))
 }
 
 #[unsafe(no_mangle)]
 pub extern "C" fn fen_first_free(store: &[u64]) -> Answer
     ensures { result ≡ answer_of (first_free_of store.now).numbers }
 {
-    export_answer::found(set_free::first_free(store))
+    Answer::from(set_free::first_free(store))
 }

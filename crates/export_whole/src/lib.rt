@@ -13,7 +13,7 @@ pub extern "C" fn fen_open(store: &mut [u64], n: u32) -> Answer
     ensures value { result ≡ answer_of (open_of store.old n).numbers }
     ensures store_after { store.new ≡ (open_of store.old n).lent }
 {
-    export_answer::did(set_whole::open(store, n))
+    Answer::from(set_whole::open(store, n))
 }
 
 #[unsafe(no_mangle)]
@@ -21,14 +21,14 @@ pub extern "C" fn fen_clear(store: &mut [u64]) -> Answer
     ensures value { result ≡ answer_of (clear_of store.old).numbers }
     ensures store_after { store.new ≡ (clear_of store.old).lent }
 {
-    export_answer::did(set_whole::clear(store))
+    Answer::from(set_whole::clear(store))
 }
 
 #[unsafe(no_mangle)]
 pub extern "C" fn fen_is_empty(store: &[u64]) -> Answer
     ensures { result ≡ answer_of (is_empty_of store.now).numbers }
 {
-    export_answer::asked(set_whole::is_empty(store))
+    Answer::from(set_whole::is_empty(store))
 }
 
 #[unsafe(no_mangle)]
@@ -36,5 +36,5 @@ pub extern "C" fn fen_rebuild(store: &mut [u64]) -> Answer
     ensures value { result ≡ answer_of (rebuild_of store.old).numbers }
     ensures store_after { store.new ≡ (rebuild_of store.old).lent }
 {
-    export_answer::did(summary::rebuild(store))
+    Answer::from(summary::rebuild(store))
 }
