@@ -63,13 +63,13 @@ module _ (ls : List ℕ) (c : ℕ) where
       go (no a) (yes e) = rw e
       go (no a) (no b) = let e : c ≡ 18 = omega arith in rw e
 
-  pub takes_one : c ≡ 19 → takes_in ls c ≡ 1
+  pub takes_last : 19 ≤ c → c < 21 → takes_in ls c ≡ 20 - c
   unfolding takes_in code_kind
-  takes_one e = rw e
-
-  pub takes_none : c ≡ 20 → takes_in ls c ≡ 0
-  unfolding takes_in code_kind
-  takes_none e = rw e
+  takes_last h l = go (ℕ_discrete c 19)
+    where
+      go : Dec (c ≡ 19) → takes (code_kind c) (ltb 0 (get_or ls c 0)) ≡ 20 - c
+      go (yes e) = rw e
+      go (no n) = let e : c ≡ 20 = omega arith in rw e
 
   pub takes_low : 4 ≤ c → c < 16 → takes_in ls c ≡ 9
   unfolding takes_in
@@ -79,7 +79,7 @@ module _ (ls : List ℕ) (c : ℕ) where
   unfolding takes_in
   takes_high h = rw (kind_unknown c (omega arith) (inr (omega arith)) (λ e. omega arith) (λ e. omega arith))
 
-pub ruleset taken = (takes_lent, takes_missing, takes_two, takes_one, takes_none, takes_low, takes_high)
+pub ruleset taken = (takes_lent, takes_missing, takes_two, takes_last, takes_low, takes_high)
 
 -- ---- the codes one after another
 

@@ -107,8 +107,11 @@ pub fn stores(f: &Formula<'_>) -> Result<usize, Refusal>
 fn put(d: usize, t: usize) -> Option<usize>
     ensures { result ≡ waiting t d }
 {
-    let stay = d.checked_sub(t)?;
-    if stay < 8 { Some(stay + 1) } else { None }
+    if t <= d && d - t < 8 {
+        Some(d - t + 1)
+    } else {
+        None
+    }
 }
 
 // How many values wait after a code where d wait before it; none also for a code that may not stand there. 19 takes one value, 20 none.
@@ -120,8 +123,7 @@ fn after(f: &Formula<'_>, code: u8, d: usize) -> Option<usize>
     match code {
         0..=3 if !f.store(code).is_empty() => put(d, 0),
         16..=18 => put(d, 2),
-        19 => put(d, 1),
-        20 => put(d, 0),
+        19..=20 => put(d, (20 - code) as usize),
         _ => None,
     }
 }
