@@ -1,11 +1,8 @@
--- `put_ids` meets its contract: what is left, put behind what was put, is the whole.
-use Prim.Native.Nat.{◌-◌}
-use lib.ListN.{length}
-use Rattle.listing_members.proofs.Naming.{PuttingIds}
+-- What the ids so far leave.
+use Rattle.std.proofs.Common.{take}
+use Rattle.text_out.specs.Out.{Puts}
+use Rattle.listing_members.specs.Members.{ids_of}
 use Rattle.listing_members.proofs.put_ids.Given as goal
 
-abbrev pub invariant-loop-i : goal.invariant-loop-i
-invariant-loop-i l = PuttingIds l.initial.buf l.at l.ids l.buf l.a l.i
-
-abbrev pub decreases-loop-i : goal.decreases-loop-i
-decreases-loop-i l = length l.ids - l.i
+abbrev pub invariant-loop-id : goal.invariant-loop-id
+invariant-loop-id l = Puts l.initial.out l.out (ids_of (take l.id-index l.fn.ids))

@@ -1,19 +1,17 @@
--- `put_members` meets its contract.
-use mathlib.Core.Path.{ap, ◌∙◌}
-use Rattle.store.proofs.Ends.{some_store, no_store}
+use Rattle.std.proofs.Common.{refl}
+use Rattle.store.proofs.Ends.{some_store, no_store, no_store_is}
 use Rattle.store.proofs.Geometry.{is_store_lem}
-use Rattle.text_out.specs.Out.{put_all_of}
-use Rattle.listing_members.proofs.Naming.{line_refused, whole_line}
+use Rattle.text_out.proofs.Puts.{puts-append}
+use Rattle.listing_members.proofs.Naming.{members_line_is, line_refused}
 use Rattle.listing_members.proofs.put_members.Goals as goal
 
-pub returns-then-capacity-eq0 : goal.returns-then-capacity-eq0
-returns-then-capacity-eq0 c =
-    c.put_all.ensures ∙ ap (put_all_of _ _) (line_refused _ (no_store c.args.store.now c.capacity.ensures c.if-capacity-eq0.true))
+pub returns-in-Ok : goal.returns-in-Ok
+returns-in-Ok c =
+    rw (members_line_is c.args.store.now (is_store_lem (some_store c.args.store.now c.in-Ok.ensures refl)))
+    (puts-append c.put_byte.ensures (puts-append c.put_walked.ensures c.put_byte-in-Ok.ensures))
 
-pub put_walked-b-requires : goal.put_walked-b-requires
-put_walked-b-requires c = is_store_lem (some_store c.args.store.now c.capacity.ensures c.if-capacity-eq0.false)
-
-pub returns : goal.returns
-returns c =
-    whole_line _ _ _ (is_store_lem (some_store c.args.store.now c.capacity.ensures c.if-capacity-eq0.false))
-    c.put_byte-a.ensures c.put_walked-b.ensures c.put_byte.ensures
+pub returns-in-Err : goal.returns-in-Err
+returns-in-Err c =
+    rw (line_refused c.args.store.now (no_store c.args.store.now c.in-Err.ensures refl))
+    (puts-append c.put_byte.ensures
+    (rw (no_store_is c.args.store.now c.in-Err.ensures refl) at c.put_refused.ensures))
