@@ -10,7 +10,8 @@ use Rattle.util.specs.Outcome.{Outcome, Settled}
 use Rattle.store.specs.Answer.{says, refuses, did_paper}
 use Rattle.store.specs.Layout.{cap, is_cap, is_store, store_len}
 use Rattle.store.specs.Word.{members, Words64}
-use Rattle.store.specs.declared.Did.{Did}
+use Rattle.store.specs.declared.Refusal.{Refusal}
+use Rattle.std.specs.Prelude.{Result}
 use Rattle.store.proofs.Ends.{length_is}
 use Rattle.store.proofs.Geometry.{is_store_lem}
 use Rattle.store.proofs.Members.{own}
@@ -47,7 +48,7 @@ good_opened : Good listing_store
 good_opened = let o = (opened 262144 (omega arith) (omega arith)).0 in record { store = is_store_lem o.is; sound = (own o).sound }
 
 -- what opening leaves of 4,163 words, and so what lines leave of it
-pub good_open : (s : List ℕ) → 4163 ≡ length s → {r : Did} {t : List ℕ} → Settled did_paper (open_of s 262144) r t → Good t
+pub good_open : (s : List ℕ) → 4163 ≡ length s → {r : Result (Unit {0}) Refusal} {t : List ℕ} → Settled did_paper (open_of s 262144) r t → Good t
 unfolding open_of open_refusal is_cap
 good_open s l {t = t} a =
     let n : store_len 262144 ≡ 4163 = length_is 262144 (omega arith) (omega arith) in
