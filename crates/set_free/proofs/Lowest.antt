@@ -8,16 +8,17 @@ use Prim.Native.Nat.{ℕ, suc, ◌+◌, ◌-◌, ◌/◌, ◌%◌, ◌≤◌, �
 use native.Mathlib.Decide.{ℕ_discrete}
 use native.Mathlib.Omega.{arith}
 use lib.ListN.{length, take, drop}
-use Rattle.util.specs.Outcome.{Settled, settled}
+use Rattle.std.specs.Result.{result_unwrap_or}
+use Rattle.util.specs.Outcome.{Outcome, Settled, settled, settles}
 use Rattle.util.specs.Word.{bit, places, Rising}
 use Rattle.util.proofs.Places.{places_same, places_none, places_in_lem, in_places, places_rising}
 use Rattle.store.specs.Answer.{number_paper, tested, gives, refuses, refusal_number, value_of}
 use Rattle.store.specs.Build.{layer0}
-use Rattle.store.specs.Layout.{max_cap, cap, is_store, StoreOf, start_from}
+use Rattle.store.specs.Layout.{words, cap, is_store, StoreOf, start_from}
 use Rattle.store.specs.Word.{on, Member, Words64}
 use Rattle.store.specs.declared.Refusal.{Refusal}
 use Rattle.store.specs.declared.Refusal.TheVariants.{Full}
-use Rattle.std.specs.Prelude.{Result, Ok, Err, IsErrAnd}
+use Rattle.std.specs.Prelude.{Result, Err, IsErrAnd, Option, ok_or, slice_get}
 use Rattle.store.proofs.Exits.{no_store_out}
 use Rattle.store.proofs.Build.{word-layer0}
 use Rattle.store.proofs.Ends.{lent0}
@@ -29,19 +30,19 @@ use Rattle.set_free.specs.Steps.{free_at, free_in, Small}
 -- ---- layer 0, as the code lends it
 
 module _ {N : ℕ} {s : List ℕ} (z : StoreOf N s) {a : ℕ} (e : a ≡ start_from (length s) N 0) where
-  pub lent_small : {first : ℕ} → first ≤ max_cap → Small (take (length s - a) (drop a s)) N first
+  pub lent_small : {first : ℕ} → first / 64 < words N → Small (take (length s - a) (drop a s)) N first
   lent_small h =
       let l = lent0 z e in
-      record { most = z.most; first_in = h; long = omega (arith, ap length l.words, l.long, room_closed N 1, z.most) }
+      let size : length (take (length s - a) (drop a s)) ≡ words N = ap length l.words ∙ l.long ∙ room_closed N 1 in
+      record { room = omega (arith, size); most = z.most; first_in = omega (arith, size); long = omega (arith, size, z.most) }
 
-  pub lowest_is : Words64 s → {r : ℕ} → r ≡ first_or N (free_in (take (length s - a) (drop a s)) N search_start) → r ≡ lowest_of s
-  unfolding lowest_of free_from on
-  lowest_is small h =
-      h
-      ∙ ap (λ (x : List ℕ). first_or N (free_in x N search_start)) (lent0 z e).words ∙ ap (λ (n : ℕ). first_or n (free_in (layer0 n s) n search_start)) (sym z.names)
-      ∙ ap (first_or (cap s)) (places_same (free_at (layer0 (cap s) s)) (λ i. 1 - on (cap s) s 0 i) search_start (cap s - search_start)
-      (λ i a b. ap (λ (w : ℕ). 1 - bit w (i % 64)) (word-layer0 s (store_is (is_store_lem z)) small (i / 64))))
-      ∙ sym (ap (λ (b : Bool). cond b (first_or (cap s) (free_from (cap s) s search_start)) 0) (is_store_lem z))
+  -- the same ids are free there
+  pub free_same : Words64 s → free_in (take (length s - a) (drop a s)) N search_start ≡ free_from (cap s) s search_start
+  unfolding free_from on
+  free_same small =
+      ap (λ (x : List ℕ). free_in x N search_start) (lent0 z e).words ∙ ap (λ (n : ℕ). free_in (layer0 n s) n search_start) (sym z.names)
+      ∙ places_same (free_at (layer0 (cap s) s)) (λ i. 1 - on (cap s) s 0 i) search_start (cap s - search_start)
+      (λ i a b. ap (λ (w : ℕ). 1 - bit w (i % 64)) (word-layer0 s (store_is (is_store_lem z)) small (i / 64)))
 
 pub lowest_0 : (s : List ℕ) → is_store s ≡ false → 0 ≡ lowest_of s
 unfolding lowest_of
@@ -154,11 +155,29 @@ module _ (s : List ℕ) (is : StoreOf (cap s) s) where
               absurd (Memᴰ.not-nil (subst (Memᴰ j) q (in_places free search_start (cap s - search_start) j a (omega arith) z)))
       go (x ∷ l) q o j a u = absurd (let z : 0 ≡ 12 = ap refusal_number o in omega arith)
 
--- ---- the search, by the lowest
+-- ---- what the code finds is the answer
 
-module _ {N : ℕ} {s : List ℕ} (z : StoreOf N s) {r : ℕ} (e : r ≡ lowest_of s) where
-  pub free_at_lem : r < N → Settled number_paper (first_free_of s) (Ok r) tt
-  free_at_lem l = settled (lowest_found s (store_is (is_store_lem z)) (omega (arith, e, z.names)) ∙ ap (λ (i : ℕ). gives i tt) (sym e))
+found : (l : List ℕ) → Settled number_paper (first_of l) (ok_or (slice_get l 0) Full) tt
+found [] = settled refl
+found (i ∷ l) = settled refl
 
-  pub free_12 : N ≤ r → Settled number_paper (first_free_of s) (Err Full) tt
-  free_12 l = settled (lowest_none s (store_is (is_store_lem z)) (omega (arith, e, z.names)))
+module _ {N : ℕ} {s : List ℕ} (z : StoreOf N s) where
+  own_store : StoreOf (cap s) s
+  own_store = store_is (is_store_lem z)
+
+  pub found_is : {a : ℕ} {r : Option ℕ} {q : Result ℕ Refusal} → a ≡ start_from (length s) N 0 → Words64 s
+      → r ≡ slice_get (free_in (take (length s - a) (drop a s)) N search_start) 0 → q ≡ ok_or r Full → Settled number_paper (first_free_of s) q tt
+  found_is {a} {r} {q} a_is small e q-is =
+      let x : slice_get (free_from (cap s) s search_start) 0 ≡ r = sym (e ∙ ap (λ (l : List ℕ). slice_get l 0) (free_same z a_is small)) in
+      rw (q-is, answer_is s own_store) (subst (λ (o : Option ℕ). Settled number_paper (first_of (free_from (cap s) s search_start)) (ok_or o Full) tt) x (found (free_from (cap s) s search_start)))
+
+  -- and N in place of a refusal is the lowest
+  pub lowest_is : {r : Result ℕ Refusal} → Settled number_paper (first_free_of s) r tt → {x : ℕ} → x ≡ result_unwrap_or r N → x ≡ lowest_of s
+  lowest_is {r} e {x} x-is = go (free_from (cap s) s search_start) (answer_is s own_store) (lowest_list s own_store)
+    where
+      told : (l : List ℕ) → first_free_of s ≡ first_of l → r ≡ ok_or (slice_get l 0) Full
+      told l a = (settles e (subst (λ (o : Outcome (Unit {0})). Settled number_paper o (ok_or (slice_get l 0) Full) tt) (sym a) (found l))).0
+
+      go : (l : List ℕ) → first_free_of s ≡ first_of l → lowest_of s ≡ first_or (cap s) l → x ≡ lowest_of s
+      go [] a b = x-is ∙ ap (λ (q : Result ℕ Refusal). result_unwrap_or q N) (told [] a) ∙ sym z.names ∙ sym b
+      go (i ∷ l) a b = x-is ∙ ap (λ (q : Result ℕ Refusal). result_unwrap_or q N) (told (i ∷ l) a) ∙ sym b

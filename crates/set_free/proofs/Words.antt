@@ -1,86 +1,117 @@
 -- Where the search finds the lowest clear bit, and that its answer is the definition's.
-use mathlib.Core.List.{List}
-use mathlib.Core.Logic.{◌≢◌}
-use mathlib.Core.Path.{◌≡◌, sym, ap, ap₂, ◌∙◌, subst}
-use Prim.Native.Nat.{ℕ, ◌+◌, ◌-◌, ◌*◌, ◌/◌, ◌%◌, ◌^◌, ◌≤◌, ◌<◌, min}
-use native.Mathlib.Decide.{dec_lt, ℕ_discrete}
-use native.Mathlib.Omega.{arith}
+use Rattle.std.proofs.Common.{◌≡◌, ◌≢◌, ℕ, zero, suc, ◌+◌, ◌-◌, ◌*◌, ◌/◌, ◌%◌, ◌^◌, ◌≤◌, ◌<◌, Bool, true, false, cond, ltb, Option, Some, None, List, [], ◌∷◌, ◌++◌, length, get_or, take, drop, slice_get, fold, refl, sym, ap, ap₂, ◌∙◌, subst, arith, length-drop, length-take, take_all, get_or-drop, get_or-take, eq-eqb, ne_eqb, lt-ltb, le-ltb, true≢false}
+use Rattle.std.proofs.lemmas.Bool.{eqb-true}
+use Rattle.std.proofs.lemmas.List.Sums.{prefix_len_is, prefix_len_passes, prefix_len_stops, prefix_len-le-length}
+use Rattle.std.proofs.lemmas.List.Folds.{prefix_len-append}
+use Rattle.std.specs.List.{prefix_len}
+use Rattle.std.specs.Simd.{first_chunks}
+use native.Mathlib.Decide.{dec_lt}
 use lib.Bits.{bit_and, and_le_l, and_le_r}
 use lib.Count.{count_trailing_zeros}
-use lib.ListN.{length, get_or, get_or-eq_default}
+use lib.ListN.{get_or-eq_default}
 use lib.Pow.{pow_mono}
 use Rattle.util.specs.Word.{bit, flip, places}
 use Rattle.util.proofs.Bits.{shl_one, bit_lt, bit_of_zero, bit-bit_and, bit-flip, ones_on, ones_off}
 use Rattle.util.proofs.Places.{Lowest, lowest, places_first, places_none}
 use Rattle.store.specs.Word.{Words64}
-use Rattle.set_free.specs.Calls.{first_or}
-use Rattle.set_free.specs.Steps.{full, FullIn, Skipped, Opened, free_at, free_in}
+use Rattle.set_free.specs.Steps.{full, is_full, all_full, Skipped, free_at, free_in}
 
 -- ---- words that are full
 
 -- of two words that are full together each is
-pub and_full : (x y : ℕ) → x ≤ full → y ≤ full → bit_and x y ≡ full → (x ≡ full) × (y ≡ full)
+and_full : (x y : ℕ) → x ≤ full → y ≤ full → bit_and x y ≡ full → (x ≡ full) × (y ≡ full)
 and_full x y hx hy e = (omega (arith, and_le_l x y), omega (arith, and_le_r x y))
 
--- some words more, or one
-full-more : (ws : List ℕ) (q r m : ℕ) → FullIn ws q r → FullIn ws r m → FullIn ws q m
-full-more ws q r m h g i a b = go (dec_lt i r)
+-- of several too
+shared_full : (a : ℕ) (ws : List ℕ) → a ≤ full → Words64 ws → fold bit_and a ws ≡ full → (a ≡ full) × ((i : ℕ) → i < length ws → get_or ws i 0 ≡ full)
+shared_full a [] h small e = (e, λ i l. absurd (omega arith))
+shared_full a (w ∷ ws) h small e =
+    let r = shared_full (bit_and a w) ws (omega (arith, and_le_l a w)) (λ i. small (suc i)) e in
+    let b = and_full a w h (omega (arith, small 0)) r.0 in
+    (b.0, each b.1 r.1)
   where
-    go : Dec (i < r) → get_or ws i 0 ≡ full
-    go (yes l) = h i a l
-    go (no l) = g i (omega arith) b
+    each : w ≡ full → ((i : ℕ) → i < length ws → get_or ws i 0 ≡ full) → (i : ℕ) → i < suc (length ws) → get_or (w ∷ ws) i 0 ≡ full
+    each here rest zero l = here
+    each here rest (suc i) l = rest i (omega arith)
 
-full-one : (ws : List ℕ) (q r : ℕ) → FullIn ws q r → get_or ws r 0 ≡ full → FullIn ws q (r + 1)
-full-one ws q r h e = full-more ws q r (r + 1) h (λ i a b. let z : i ≡ r = omega arith in ap (λ (j : ℕ). get_or ws j 0) z ∙ e)
+-- as the code finds them, one by one and eight at a time: no more than there are
+pub few_ahead : (ws : List ℕ) → prefix_len is_full ws ≤ length ws
+few_ahead ws = prefix_len-le-length is_full ws
 
-pub full-four : (ws : List ℕ) (i : ℕ) → Words64 ws
-    → bit_and (bit_and (bit_and (get_or ws i 0) (get_or ws (i + 1) 0)) (get_or ws (i + 2) 0)) (get_or ws (i + 3) 0) ≡ full → FullIn ws i (i + 4)
-full-four ws i small e =
-    let w0 : ℕ = get_or ws i 0 in
-    let w1 : ℕ = get_or ws (i + 1) 0 in
-    let w2 : ℕ = get_or ws (i + 2) 0 in
-    let w3 : ℕ = get_or ws (i + 3) 0 in
-    let s = small i in
-    let l1 : bit_and w0 w1 ≤ full = omega (arith, and_le_l w0 w1) in
-    let l2 : bit_and (bit_and w0 w1) w2 ≤ full = omega (arith, and_le_l (bit_and w0 w1) w2) in
-    let a = and_full (bit_and (bit_and w0 w1) w2) w3 l2 (omega (arith, small (i + 3))) e in
-    let b = and_full (bit_and w0 w1) w2 l1 (omega (arith, small (i + 2))) a.0 in
-    let c = and_full w0 w1 (omega arith) (omega (arith, small (i + 1))) b.0 in
-    λ j u v. at j c.0 c.1 b.1 a.1 u v (ℕ_discrete j i) (ℕ_discrete j (i + 1)) (ℕ_discrete j (i + 2))
+pub few_eights : (es : List (List ℕ)) → prefix_len all_full es ≤ length es
+few_eights es = prefix_len-le-length all_full es
+
+ahead_full : (ws : List ℕ) (k : ℕ) → k < prefix_len is_full ws → get_or ws k 0 ≡ full
+ahead_full ws k h = eqb-true _ _ (prefix_len_passes is_full ws k 0 h)
+
+skipped_none : (ws : List ℕ) → Skipped ws 0
+skipped_none ws = record { upto = omega arith; passed = λ i l. absurd (omega arith) }
+
+skipped_more : (ws : List ℕ) (a b : ℕ) → Skipped ws a → Skipped (drop a ws) b → Skipped ws (a + b)
+skipped_more ws a b h g = record { upto = omega (arith, h.upto, g.upto, length-drop a ws); passed = λ i l. at i l (dec_lt i a) }
   where
-    at : (j : ℕ) → get_or ws i 0 ≡ full → get_or ws (i + 1) 0 ≡ full → get_or ws (i + 2) 0 ≡ full → get_or ws (i + 3) 0 ≡ full → i ≤ j → j < i + 4
-        → Dec (j ≡ i) → Dec (j ≡ i + 1) → Dec (j ≡ i + 2) → get_or ws j 0 ≡ full
-    at j e0 e1 e2 e3 u v (yes z) d2 d3 = ap (λ (x : ℕ). get_or ws x 0) z ∙ e0
-    at j e0 e1 e2 e3 u v (no n) (yes z) d3 = ap (λ (x : ℕ). get_or ws x 0) z ∙ e1
-    at j e0 e1 e2 e3 u v (no n) (no m) (yes z) = ap (λ (x : ℕ). get_or ws x 0) z ∙ e2
-    at j e0 e1 e2 e3 u v (no n) (no m) (no k) = let z : j ≡ i + 3 = omega arith in ap (λ (x : ℕ). get_or ws x 0) z ∙ e3
+    at : (i : ℕ) → i < a + b → Dec (i < a) → get_or ws i 0 ≡ full
+    at i l (yes u) = h.passed i u
+    at i l (no u) =
+        let e : a + (i - a) ≡ i = omega arith in
+        ap (λ (x : ℕ). get_or ws x 0) (sym e) ∙ sym (get_or-drop a ws (i - a) 0) ∙ g.passed (i - a) (omega arith)
 
-pub skipped_start : (ws : List ℕ) (q : ℕ) → Skipped ws q q
-skipped_start ws q = record { from = omega arith; upto = omega arith; passed = λ i a b. absurd (omega arith) }
+skipped_eights : (m : ℕ) (ws : List ℕ) → Words64 ws → 8 * m ≤ length ws → Skipped ws (8 * prefix_len all_full (first_chunks 8 m ws))
+skipped_eights zero ws small h = skipped_none ws
+skipped_eights (suc m) ws small h =
+    go (all_full (take 8 ws)) refl (skipped_eights m (drop 8 ws) (λ i. rw (get_or-drop 8 ws i 0) (small (8 + i))) (omega (arith, length-drop 8 ws)))
+  where
+    front : all_full (take 8 ws) ≡ true → Skipped ws 8
+    front e =
+        record {
+          upto = omega arith;
+          passed = λ i l.
+              sym (get_or-take 8 ws i 0 l)
+              ∙ (shared_full full (take 8 ws) (omega arith) words8 (eqb-true _ _ e)).1 i (omega (arith, length-take 8 ws));
+        }
+      where
+        words8 : Words64 (take 8 ws)
+        words8 i = at (dec_lt i 8)
+          where
+            at : Dec (i < 8) → get_or (take 8 ws) i 0 < 2 ^ 64
+            at (yes l) = rw (get_or-take 8 ws i 0 l) (small i)
+            at (no l) = rw (get_or-eq_default (take 8 ws) 0 {n = i} (omega (arith, length-take 8 ws))) (omega arith)
 
-module _ {ws : List ℕ} {q r : ℕ} (h : Skipped ws q r) where
-  pub skipped_one : r < length ws → get_or ws r 0 ≡ full → Skipped ws q (r + 1)
-  skipped_one l e = record { from = omega (arith, h.from); upto = omega arith; passed = full-one ws q r h.passed e }
+    go : (b : Bool) → all_full (take 8 ws) ≡ b → Skipped (drop 8 ws) (8 * prefix_len all_full (first_chunks 8 m (drop 8 ws)))
+        → Skipped ws (8 * cond b (1 + prefix_len all_full (first_chunks 8 m (drop 8 ws))) 0)
+    go true e rest =
+        let c : ℕ = prefix_len all_full (first_chunks 8 m (drop 8 ws)) in
+        let q : 8 + 8 * c ≡ 8 * (1 + c) = omega arith in
+        subst (Skipped ws) q (skipped_more ws 8 (8 * c) (front e) rest)
+    go false e rest = skipped_none ws
 
-  pub skipped_eight : r + 8 ≤ length ws → FullIn ws r (r + 4) → FullIn ws (r + 4) (r + 4 + 4) → Skipped ws q (r + 8)
-  skipped_eight l a b =
-      let z : r + 4 + 4 ≡ r + 8 = omega arith in
-      record {
-        from = omega (arith, h.from);
-        upto = omega arith;
-        passed = full-more ws q (r + 4) (r + 8) (full-more ws q r (r + 4) h.passed a) (subst (FullIn ws (r + 4)) z b);
-      }
+pub eights_skipped : (ws : List ℕ) {es : List (List ℕ)} {c : ℕ} → Words64 ws → es ≡ first_chunks 8 (length ws / 8) ws → c ≡ prefix_len all_full es → Skipped ws (8 * c)
+eights_skipped ws small e q =
+    subst (λ (x : ℕ). Skipped ws (8 * x)) (sym (q ∙ ap (prefix_len all_full) e)) (skipped_eights (length ws / 8) ws small (omega arith))
 
-  pub skipped_on : {m : ℕ} → Skipped ws r m → Skipped ws q m
-  skipped_on {m} g = record { from = omega (arith, h.from, g.from); upto = omega (arith, h.upto, g.upto); passed = full-more ws q r m h.passed g.passed }
+-- what is found in the part of a slice that goes on from place n to its end, as the code cuts it
+pub part_ahead : (ws : List ℕ) (n : ℕ) {r : ℕ} → r ≡ prefix_len is_full (take (length ws - n) (drop n ws)) → r ≡ prefix_len is_full (drop n ws)
+part_ahead ws n e = e ∙ ap (prefix_len is_full) (take_all (length ws - n) (drop n ws) (omega (arith, length-drop n ws)))
 
-  -- at the end there is no word, and 0 is not full
-  pub opened_where : (r < length ws → get_or ws r 0 ≢ full) → Opened ws q r
-  opened_where n = record { skipped = h; some = go (dec_lt r (length ws)) }
-    where
-      go : Dec (r < length ws) → get_or ws r 0 ≢ full
-      go (yes l) = λ e. n l e
-      go (no l) = λ e. omega (arith, sym (get_or-eq_default ws 0 (omega (arith, l))) ∙ e)
+-- behind words that are full
+pub ahead_behind : (ws : List ℕ) (n : ℕ) → Skipped ws n → n + prefix_len is_full (drop n ws) ≡ prefix_len is_full ws
+ahead_behind ws n h =
+    let b : ℕ = prefix_len is_full (drop n ws) in
+    let t : Skipped (drop n ws) b = record { upto = few_ahead (drop n ws); passed = ahead_full (drop n ws) } in
+    let u = skipped_more ws n b h t in
+    sym (prefix_len_is is_full ws (n + b) 0 u.upto (λ k l. eq-eqb _ _ (u.passed k l))
+    (λ l. ap is_full (sym (get_or-drop n ws b 0)) ∙ prefix_len_stops is_full (drop n ws) 0 (omega (arith, length-drop n ws))))
+
+-- of a slice in two parts: what is found in the first is found of all where it does not end it
+module _ {ws : List ℕ} (near rest : List ℕ) (parts : ws ≡ near ++ rest) {i : ℕ} (e : i ≡ prefix_len is_full near) where
+  pub ahead_near : i < length near → i ≡ prefix_len is_full ws
+  ahead_near l = rw (parts, prefix_len-append is_full near rest, ne_eqb (prefix_len is_full near) (length near) (λ q. omega (arith, e, q))) e
+
+  pub ahead_far : length near ≤ i → {far b : ℕ} → Skipped rest far → b ≡ prefix_len is_full (drop far rest) → i + far + b ≡ prefix_len is_full ws
+  ahead_far l {far} {b} h b-is =
+      let q : prefix_len is_full near ≡ length near = omega (arith, e, few_ahead near) in
+      let x : i + far + b ≡ length near + (far + prefix_len is_full (drop far rest)) = omega (arith, e, q, b-is) in
+      rw (parts, prefix_len-append is_full near rest, eq-eqb (prefix_len is_full near) (length near) q) (x ∙ ap (λ (m : ℕ). length near + m) (ahead_behind rest far h))
 
 -- ---- the ids of a word
 
@@ -148,12 +179,13 @@ module _ {ws : List ℕ} {q t left : ℕ} (h : Left ws q t left) where
 -- ---- the answer
 
 -- id p is free and none before it from `first` on
-first_at : (f : ℕ → ℕ) (n first p : ℕ) → first ≤ p → ((i : ℕ) → first ≤ i → i < p → f i ≡ 0) → f p ≢ 0 → min p n ≡ first_or n (places f first (n - first))
+first_at : (f : ℕ → ℕ) (n first p : ℕ) → first ≤ p → ((i : ℕ) → first ≤ i → i < p → f i ≡ 0) → f p ≢ 0
+    → cond (ltb p n) (Some p) None ≡ slice_get (places f first (n - first)) 0
 first_at f n first p l zeros some = go (dec_lt p n)
   where
-    go : Dec (p < n) → min p n ≡ first_or n (places f first (n - first))
-    go (yes h) = let e : min p n ≡ p = omega arith in e ∙ sym (ap (first_or n) (places_first f first p (n - first) l (omega arith) zeros some))
-    go (no h) = let e : min p n ≡ n = omega arith in e ∙ sym (ap (first_or n) (places_none f first (n - first) (λ i a b. zeros i a (omega arith))))
+    go : Dec (p < n) → cond (ltb p n) (Some p) None ≡ slice_get (places f first (n - first)) 0
+    go (yes h) = rw (lt-ltb p n h, places_first f first p (n - first) l (omega arith) zeros some)
+    go (no h) = rw (le-ltb p n (omega arith), places_none f first (n - first) (λ i a b. zeros i a (omega arith)))
 
 -- what is left of the first id's word w, as the code has it
 abbrev pub own_left : ℕ → ℕ → ℕ
@@ -173,34 +205,52 @@ module _ (ws : List ℕ) (n first : ℕ) where
       (left_from ws q (omega (arith, e)) t (omega arith))
 
   -- in the word of the first id
-  pub own_word : (w : ℕ) → w ≡ get_or ws (first / 64) 0 → w ≤ full → own_left first w ≢ 0
-      → min (64 * (first / 64) + count_trailing_zeros 64 (own_left first w)) n ≡ first_or n (free_in ws n first)
-  own_word w e small some =
+  pub own_word : (w : ℕ) → w ≡ get_or ws (first / 64) 0 → w ≤ full → own_left first w ≢ 0 → {r : Option ℕ}
+      → r ≡ cond (ltb (64 * (first / 64) + count_trailing_zeros 64 (own_left first w)) n) (Some (64 * (first / 64) + count_trailing_zeros 64 (own_left first w))) None
+      → r ≡ slice_get (free_in ws n first) 0
+  own_word w e small some r-is =
       let l = first_left (own_left_lem w e small) some in
-      first_at (free_at ws) n first (64 * q + count_trailing_zeros 64 (own_left first w)) (omega (arith, l.from)) (λ i a u. l.taken i (omega arith) u) l.free
+      r-is ∙ first_at (free_at ws) n first (64 * q + count_trailing_zeros 64 (own_left first w)) (omega (arith, l.from)) (λ i a u. l.taken i (omega arith) u) l.free
 
-  -- in the next word that is not full
-  pub next_word : (w p v : ℕ) → w ≡ get_or ws (first / 64) 0 → w ≤ full → own_left first w ≡ 0
-      → Opened ws (first / 64 + 1) p → v ≡ get_or ws p 0 → v ≤ full
-      → min (64 * p + count_trailing_zeros 64 (full - v)) n ≡ first_or n (free_in ws n first)
-  next_word w p v e small none o v-is small-v =
-      let l = first_left there (λ z. o.some (omega (arith, v-is))) in
-      first_at (free_at ws) n first (64 * p + count_trailing_zeros 64 (full - v)) (omega (arith, o.skipped.from))
-      (λ i a u. at i a u (dec_lt i (64 * p)) (l.taken i)) l.free
-    where
-      there : Left ws p 0 (full - v)
-      there = subst (Left ws p 0) (ap (λ (x : ℕ). full - x) (sym v-is)) (left-all ws p (omega (arith, v-is)))
+  -- where nothing is left of that word, and r words behind it are full
+  module _ (w r : ℕ) (e : w ≡ get_or ws (first / 64) 0) (small : w ≤ full) (none : own_left first w ≡ 0) (r-is : r ≡ prefix_len is_full (drop (first / 64 + 1) ws)) where
+    full_id : (i : ℕ) → get_or ws (i / 64) 0 ≡ full → free_at ws i ≡ 0
+    full_id i f =
+        let d : 64 * (i / 64) + 0 ≤ i = omega arith in
+        none_left (left-all ws (i / 64) (omega arith)) (ap flip f) i d (omega arith)
 
-      full-id : (i : ℕ) → get_or ws (i / 64) 0 ≡ full → free_at ws i ≡ 0
-      full-id i f =
-          let d : 64 * (i / 64) + 0 ≤ i = omega arith in
-          none_left (left-all ws (i / 64) (omega arith)) (ap flip f) i d (omega arith)
+    before : (i : ℕ) → first ≤ i → i < 64 * (q + 1 + r) → free_at ws i ≡ 0
+    before i a u = go (dec_lt i (64 * q + 64))
+      where
+        go : Dec (i < 64 * q + 64) → free_at ws i ≡ 0
+        go (yes l) = none_left (own_left_lem w e small) none i (omega arith) l
+        go (no l) =
+            let k : ℕ = i / 64 - (q + 1) in
+            let z : q + 1 + k ≡ i / 64 = omega arith in
+            full_id i (ap (λ (x : ℕ). get_or ws x 0) (sym z) ∙ sym (get_or-drop (q + 1) ws k 0) ∙ ahead_full (drop (q + 1) ws) k (omega arith))
 
-      before : (i : ℕ) → first ≤ i → i < 64 * p → Dec (i < 64 * q + 64) → free_at ws i ≡ 0
-      before i a u (yes l) = none_left (own_left_lem w e small) none i (omega arith) l
-      before i a u (no l) = full-id i (o.skipped.passed (i / 64) (omega arith) (omega arith))
+    -- there may be no word behind them
+    pub no_word : n ≤ 64 * length ws → length ws ≤ first / 64 + 1 + r → None ≡ slice_get (free_in ws n first) 0
+    no_word room h = rw (places_none (free_at ws) first (n - first) (λ i a b. before i a (omega arith)))
 
-      at : (i : ℕ) → first ≤ i → i < 64 * p + count_trailing_zeros 64 (full - v) → Dec (i < 64 * p)
-          → (64 * p + 0 ≤ i → i < 64 * p + count_trailing_zeros 64 (full - v) → free_at ws i ≡ 0) → free_at ws i ≡ 0
-      at i a u (yes l) taken = before i a l (dec_lt i (64 * q + 64))
-      at i a u (no l) taken = taken (omega arith) u
+    -- else the next one is not
+    pub next_word : (p v : ℕ) → p ≡ first / 64 + 1 + r → p < length ws → v ≡ get_or ws p 0 → v ≤ full → {x : Option ℕ}
+        → x ≡ cond (ltb (64 * p + count_trailing_zeros 64 (full - v)) n) (Some (64 * p + count_trailing_zeros 64 (full - v))) None
+        → x ≡ slice_get (free_in ws n first) 0
+    next_word p v p-is h v-is small-v x-is =
+        let l = first_left there (λ z. open_there (omega (arith, z))) in
+        x-is ∙ first_at (free_at ws) n first (64 * p + count_trailing_zeros 64 (full - v)) (omega arith) (λ i a u. at i a u (dec_lt i (64 * p)) (l.taken i)) l.free
+      where
+        there : Left ws p 0 (full - v)
+        there = subst (Left ws p 0) (ap (λ (x : ℕ). full - x) (sym v-is)) (left-all ws p (omega (arith, v-is)))
+
+        open_there : v ≡ full → ⊥
+        open_there z =
+            let stop : is_full (get_or (drop (q + 1) ws) r 0) ≡ false =
+            ap (λ (x : ℕ). is_full (get_or (drop (q + 1) ws) x 0)) r-is ∙ prefix_len_stops is_full (drop (q + 1) ws) 0 (omega (arith, length-drop (q + 1) ws)) in
+            true≢false (sym (eq-eqb _ _ (get_or-drop (q + 1) ws r 0 ∙ ap (λ (x : ℕ). get_or ws x 0) (sym p-is) ∙ sym v-is ∙ z)) ∙ stop)
+
+        at : (i : ℕ) → first ≤ i → i < 64 * p + count_trailing_zeros 64 (full - v) → Dec (i < 64 * p)
+            → (64 * p + 0 ≤ i → i < 64 * p + count_trailing_zeros 64 (full - v) → free_at ws i ≡ 0) → free_at ws i ≡ 0
+        at i a u (yes l) taken = before i a (omega arith)
+        at i a u (no l) taken = taken (omega arith) u

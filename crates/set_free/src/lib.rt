@@ -1,17 +1,19 @@
 // The free search: the lowest id from 1 on that is not a member, by layer 0 alone.
 #![tactic(auto)]
 
-ghost use Rattle.std.specs.Prelude.{◌≡◌, ◌+◌, ◌^◌, ◌≤◌, ◌<◌, min, length};
+ghost use Rattle.std.specs.Prelude.{◌≡◌, ◌≤◌, cond, ltb, Some, None, fold, slice_get};
+ghost use Rattle.std.specs.Int.Bits.{bit_and};
+ghost use Rattle.std.specs.List.{prefix_len};
 ghost use Rattle.util.specs.Outcome.{Settled};
 ghost use Rattle.store.specs.Answer.{number_paper};
 ghost use Rattle.store.specs.Layout.{max_cap};
-ghost use Rattle.set_free.specs.Calls.{first_or, lowest_of, first_free_of};
-ghost use Rattle.set_free.specs.Steps.{full, FullIn, Skipped, Passed, Opened, Small, free_in};
+ghost use Rattle.set_free.specs.Calls.{lowest_of, first_free_of};
+ghost use Rattle.set_free.specs.Steps.{full, is_full, all_full, Small, free_in};
 
 use store::Refusal;
 
 // A word with every bit set.
-const FULL: u64 = 18446744073709551615;
+const FULL: u64 = u64::MAX;
 
 // How many words behind the first are looked at one by one, before eight are looked at a turn.
 const NEAR: usize = 16;
@@ -19,95 +21,67 @@ const NEAR: usize = 16;
 // The id that the search begins with: chunk 0 is the container's header.
 const SEARCH_START: usize = 1;
 
-// The bits that four words share: all of them if each word is full.
-fn four(layer: &[u64], i: usize) -> u64
-    requires { i + 4 ≤ length layer.now }
-    ensures { result ≡ full → FullIn layer.now i (i + 4) }
+// The bits that eight words share: all of them if each word is full. None is left out, so that there is no branch for each.
+fn shared(eight: &[u64; 8]) -> u64
+    ensures { result ≡ fold bit_and full eight.now }
 {
-    layer[i] & layer[i + 1] & layer[i + 2] & layer[i + 3]
+    eight.iter().copied().fold(FULL, |all, w| all & w)
 }
 
-// Past the full words from q on, eight a turn, as far as eight are full together.
-fn skip(layer: &[u64], q: usize) -> usize
-    requires { q < 2 ^ 63 }
-    ensures { Skipped layer.now q result }
+// How many words in front are full.
+fn ahead(words: &[u64]) -> usize
+    ensures { result ≡ prefix_len is_full words.now }
 {
-    let mut i = q;
-    while i + 8 <= layer.len() {
-        if four(layer, i) & four(layer, i + 4) != FULL {
-            return i;
-        }
-        i += 8;
-    }
-    i
+    words.iter().take_while(|w| **w == FULL).count()
 }
 
-// Past the full words from q on, one by one, as far as `end`.
-fn pass(layer: &[u64], q: usize, end: usize) -> usize
-    requires { end ≤ length layer.now }
-    ensures { Passed layer.now q end result }
+// How many eights in front are full, each as one.
+fn eights_ahead(eights: &[[u64; 8]]) -> usize
+    ensures { result ≡ prefix_len all_full eights.now }
 {
-    let mut i = q;
-    while i < end {
-        if layer[i] != FULL {
-            return i;
-        }
-        i += 1;
-    }
-    i
+    eights
+        .iter()
+        .take_while(|eight| shared(eight) == FULL)
+        .count()
 }
 
-// The first word from q on that is not full; past the layer's end a word is 0. It is mostly near, so some are looked at one by one first.
-fn open_word(layer: &[u64], q: usize) -> usize
-    requires { q < 2 ^ 63 }
-    ensures { Opened layer.now q result }
+// How many words in front are full. They are mostly few, so some are looked at one by one, before eight are looked at a turn.
+#[tactic(auto, using(crate::proofs::Words::few_ahead, crate::proofs::Words::few_eights))]
+fn far_ahead(words: &[u64]) -> usize
+    ensures { result ≡ prefix_len is_full words.now }
 {
-    let near = if q + NEAR < layer.len() {
-        q + NEAR
-    } else {
-        layer.len()
-    };
-    let i = pass(layer, q, near);
-    if i < near {
+    let (near, rest) = words.split_at(words.len().min(NEAR));
+    let i = ahead(near);
+    if i < near.len() {
         return i;
     }
-    pass(layer, skip(layer, i), layer.len())
+    let (eights, _) = rest.as_chunks::<8>();
+    let far = 8 * eights_ahead(eights);
+    i + far + ahead(&rest[far..])
 }
 
-// The id, or n where it is none below n.
-fn within(id: usize, n: usize) -> u32
+// The id, where it is below n.
+fn within(id: usize, n: usize) -> Option<u32>
     requires { n ≤ max_cap }
-    ensures { result ≡ min id n }
+    ensures { result ≡ cond (ltb id n) (Some id) None }
 {
-    if id < n { id as u32 } else { n as u32 }
+    if id < n { Some(id as u32) } else { None }
 }
 
-// The lowest free id from `first` on, or n where there is none: in its own word, where the ids before it are left out, or in the next one that
-// is not full.
-fn search(layer: &[u64], n: usize, first: usize) -> u32
+// The lowest free id from `first` on and below n: in its own word, where the ids before it are left out, or in the next one that is not full.
+fn search(layer: &[u64], n: usize, first: usize) -> Option<u32>
     requires { Small layer.now n first }
-    ensures { result ≡ first_or n (free_in layer.now n first) }
+    ensures { result ≡ slice_get (free_in layer.now n first) 0 }
 {
     let q = first / 64;
     let before = (1u64 << (first % 64)) - 1;
-    let left = !store::get(layer, q) & !before;
+    let left = !layer[q] & !before;
     if left != 0 {
-        return within(64 * q + u64::trailing_zeros(left) as usize, n);
+        return within(64 * q + left.trailing_zeros() as usize, n);
     }
-    let p = open_word(layer, q + 1);
-    let w = !store::get(layer, p);
-    within(64 * p + u64::trailing_zeros(w) as usize, n)
-}
-
-// The lowest id from 1 on and below the capacity that is not a member, or the capacity where there is none; 0 of a slice that is no store.
-pub fn lowest_free(store: &[u64]) -> u32
-    ensures { result ≡ lowest_of store.now }
-{
-    let Ok(n) = store::capacity(store) else {
-        return 0;
-    };
-    let a = store::start(store.len(), n, 0);
-    search(&store[a..], n, SEARCH_START)
+    let p = q + 1 + far_ahead(&layer[q + 1..]);
+    let w = !layer.get(p)?;
+    within(64 * p + w.trailing_zeros() as usize, n)
 }
 
 // The lowest id from 1 on and below the capacity that is not a member.
@@ -115,10 +89,16 @@ pub fn first_free(store: &[u64]) -> Result<u32, Refusal>
     ensures { Settled number_paper (first_free_of store.now) result tt }
 {
     let n = store::capacity(store)?;
-    let id = lowest_free(store);
-    if (id as usize) < n {
-        Ok(id)
-    } else {
-        Err(Refusal::Full)
+    let a = store::start(store.len(), n, 0);
+    search(&store[a..], n, SEARCH_START).ok_or(Refusal::Full)
+}
+
+// The same, or the capacity where there is none; 0 of a slice that is no store.
+pub fn lowest_free(store: &[u64]) -> u32
+    ensures { result ≡ lowest_of store.now }
+{
+    match store::capacity(store) {
+        Ok(n) => first_free(store).unwrap_or(n as u32),
+        Err(_) => 0,
     }
 }
