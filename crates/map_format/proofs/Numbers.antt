@@ -1,9 +1,8 @@
 -- Little-endian numbers: to bytes and back, as std has them, at a place, and written over a list.
-use Rattle.std.proofs.Common.{◌≡◌, ℕ, zero, suc, ◌+◌, ◌*◌, ◌/◌, ◌%◌, ◌^◌, ◌≤◌, ◌<◌, List, [], ◌∷◌, ◌++◌, length, get_or, set, take, drop, sym, refl, ap, ap₂, ◌∙◌, arith, w32, w64, pow-add, length-drop, length-take-le, drop_at, take_at, get_or-take, get_or-drop}
+use Rattle.std.proofs.Common.{◌≡◌, ℕ, zero, suc, ◌+◌, ◌*◌, ◌/◌, ◌%◌, ◌^◌, ◌≤◌, ◌<◌, List, [], ◌∷◌, ◌++◌, length, get_or, set, take, drop, sym, refl, ap, ap₂, ◌∙◌, arith, w32, w64, pow-add, length-drop, length-take-le, drop_of_length-le, drop_at, take_at, get_or-take, get_or-drop}
 use Rattle.std.proofs.Math.ListN.{get_or-eq_default}
 use Rattle.std.proofs.Math.Seq.{sets}
 use Rattle.std.specs.Int.{to_le_bytes, from_le_bytes}
-use Rattle.std.proofs.lemmas.Nat.{le_bytes_4, le_bytes_8}
 use native.Mathlib.Decide.{dec_lt}
 use native.Mathlib.Nat.{div-div-eq-div-mul}
 use Rattle.map_format.specs.Bytes.{le, num, num_at, Bytes}
@@ -44,12 +43,33 @@ pub bytes_8 : (x : ℕ) → to_le_bytes w64 x ≡ le 8 x
 unfolding le
 bytes_8 x = sym (simp div-div-eq-div-mul)
 
-module _ (bs : List ℕ) (small : Bytes bs) {n : ℕ} where
-  pub number_4 : length bs ≡ 4 → n < 2 ^ 32 → n ≡ from_le_bytes w32 bs → n ≡ num bs
-  number_4 l h e = sym (num-le 4 n h) ∙ ap num (sym (bytes_4 n) ∙ le_bytes_4 bs n l small e)
+num_from : (bs : List ℕ) (k : ℕ) → num (drop k bs) ≡ get_or bs k 0 + 256 * num (drop (suc k) bs)
+unfolding num
+num_from [] zero = omega arith
+num_from [] (suc k) = omega arith
+num_from (b ∷ bs) zero = refl
+num_from (b ∷ bs) (suc k) = num_from bs k
 
-  pub number_8 : length bs ≡ 8 → n < 2 ^ 64 → n ≡ from_le_bytes w64 bs → n ≡ num bs
-  number_8 l h e = sym (num-le 8 n h) ∙ ap num (sym (bytes_8 n) ∙ le_bytes_8 bs n l small e)
+module _ (bs : List ℕ) where
+  pub number_4 : length bs ≡ 4 → from_le_bytes w32 bs ≡ num bs
+  unfolding num
+  number_4 l = omega (arith, num_from bs 0, num_from bs 1, num_from bs 2, num_from bs 3, ap num (drop_of_length-le bs {i = 4} (omega arith)))
+
+  pub number_8 : length bs ≡ 8 → from_le_bytes w64 bs ≡ num bs
+  unfolding num
+  number_8 l =
+      omega (
+        arith,
+        num_from bs 0,
+        num_from bs 1,
+        num_from bs 2,
+        num_from bs 3,
+        num_from bs 4,
+        num_from bs 5,
+        num_from bs 6,
+        num_from bs 7,
+        ap num (drop_of_length-le bs {i = 8} (omega arith)),
+      )
 
 -- ---- at a place
 

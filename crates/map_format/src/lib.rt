@@ -7,16 +7,22 @@ ghost use Rattle.map_format.specs.Steps.{with_last, used_at};
 
 use std::cmp::Ordering;
 
-// Word q of a layer 0, its bits at or past n taken as absent; 0 past its end.
-pub fn kept_word(layer: &[u64], n: usize, q: usize) -> u64
-    ensures { result ≡ get_or layer.now q 0 % 2 ^ room0 n q }
+// A word of number q without its bits at or past n.
+pub fn cut(w: u64, n: usize, q: usize) -> u64
+    ensures { result ≡ w % 2 ^ room0 n q }
 {
-    let w = store::get(layer, q);
     match q.cmp(&(n / 64)) {
         Ordering::Less => w,
         Ordering::Equal => w % (1u64 << (n % 64)),
         Ordering::Greater => 0,
     }
+}
+
+// Word q of a layer 0, its bits at or past n taken as absent; 0 past its end.
+pub fn kept_word(layer: &[u64], n: usize, q: usize) -> u64
+    ensures { result ≡ get_or layer.now q 0 % 2 ^ room0 n q }
+{
+    cut(store::get(layer, q), n, q)
 }
 
 // How many of the words are not zero.

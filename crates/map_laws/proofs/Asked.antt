@@ -16,9 +16,9 @@ use Rattle.store.proofs.Geometry.{is_store_lem, store_is}
 use Rattle.map_write.specs.Calls.{map_length_of, write_of}
 use Rattle.map_write.specs.Map.{told_words, map_len}
 use Rattle.map_read.specs.Calls.{map_capacity_of, read_of}
-use Rattle.map_read.specs.Judge.{cap_in, count_in, used_in, table_in, head_ok, good, total, judge_of}
-use Rattle.map_read.specs.Steps.{table_of}
-use Rattle.map_read.proofs.Right.{map-taken, is_head, judge_9, judge_5, judge_table_lem}
+use Rattle.map_read.specs.Judge.{cap_in, count_in, head_ok, judge_of}
+use Rattle.map_read.specs.Steps.{entries_in, all_good, ones_in_all, entries_of}
+use Rattle.map_read.proofs.Right.{map-taken, is_head, judge_9, judge_5, judge_entries_lem}
 use Rattle.map_laws.proofs.Theorems.{map_right, read-does, read-refuses, write_gives, written_is}
 
 -- ---- HOW LONG A MAP IS
@@ -100,9 +100,9 @@ module _ (m : List ℕ) where
 abbrev verdict : Bool → Bool → ℕ
 verdict g c = cond g (cond c 0 11) 10
 
-table_other : (N n k : ℕ) (t : List ℕ) → (table_of N n k t ≢ 9) × (table_of N n k t ≢ 5)
-unfolding table_of
-table_other N n k t = go (good N 0 n t) (eqb (total n t) k)
+entries_other : (N k : ℕ) (es : List (List ℕ)) → (entries_of N k es ≢ 9) × (entries_of N k es ≢ 5)
+unfolding entries_of
+entries_other N k es = go (all_good N 0 es) (eqb (ones_in_all es) k)
   where
     go : (g c : Bool) → (verdict g c ≢ 9) × (verdict g c ≢ 5)
     go true true = (λ e. omega arith, λ e. omega arith)
@@ -123,8 +123,8 @@ module _ (m : List ℕ) {N : ℕ} {t : List ℕ} (z : StoreOf N t) where
   -- the verdict on a map of the store's capacity
   judged : head_ok m ≡ true → cap_in m ≡ N → (judge_of m N ≢ 9) × (judge_of m N ≢ 5)
   judged h d =
-      let o = table_other N (used_in m) (count_in m) (table_in m) in
-      (λ e. o.0 (sym (judge_table_lem m N h d) ∙ e), λ e. o.1 (sym (judge_table_lem m N h d) ∙ e))
+      let o = entries_other N (count_in m) (entries_in m) in
+      (λ e. o.0 (sym (judge_entries_lem m N h d) ∙ e), λ e. o.1 (sym (judge_entries_lem m N h d) ∙ e))
 
   -- refusal 9 is given by the reader exactly where the map names no capacity
   pub read_9 : (read_of m t ≡ refuses 9 t) ↔ (map_capacity_of m ≡ refuses 9 tt)

@@ -1,43 +1,49 @@
 -- The store with a new layer 0: cleared, its layer 0 put back as a part, and the summaries rebuilt.
-use mathlib.Core.List.{List, ◌++◌, append-nil}
-use mathlib.Core.Path.{◌≡◌, refl, sym, ap, ap₂, ◌∙◌}
-use Prim.Native.Nat.{ℕ, zero, suc, ◌+◌, ◌-◌, ◌≤◌}
-use native.Mathlib.Omega.{arith}
+use Rattle.std.proofs.Common.{◌≡◌, ℕ, suc, ◌+◌, ◌-◌, ◌≤◌, List, [], ◌∷◌, ◌++◌, length, get_or, set, take, drop, replicate, Result, Ok, Err, refl, sym, ap, ◌∙◌, arith, append-nil, length-set, length-drop, length-append, length-take-le, take_all, drop_at, get_or-take}
+use Rattle.std.proofs.Math.ListN.{length-replicate, get_or-append}
+use Rattle.std.proofs.Math.Seq.{drop-length}
+use Rattle.std.proofs.lemmas.List.{drop-replicate}
 use borrow.Rule.Slice.PartMut.{mid_of, put_mid, Post-is}
-use lib.ListN.{length, get_or, set, take, drop, replicate, length-set, length-drop, length-append, length-replicate, get_or-append}
-use lib.Seq.{take_all, drop-length, drop_at, get_or-take, length-take-le}
 use Rattle.util.specs.Outcome.{Outcome, Settled}
 use Rattle.store.specs.Answer.{did_paper, does}
 use Rattle.store.specs.Build.{build, layer0, empty}
 use Rattle.store.specs.Layout.{layer_len, layer_start, store_len, start_from, StoreOf}
-use Rattle.store.specs.declared.Did.{Did}
+use Rattle.store.specs.declared.Refusal.{Refusal}
+use Rattle.store.proofs.Build.{store_empty}
 use Rattle.store.proofs.Ends.{part}
 use Rattle.store.proofs.Geometry.{is_store_lem, after-header}
 use Rattle.set_whole.specs.Calls.{clear_of}
 use Rattle.summary.specs.Calls.{rebuild_of}
-use Rattle.map_read.specs.Judge.{fill_table, used_in, table_in, map_words, number_in, word_in, behind}
-use Rattle.map_read.proofs.Right.{lent_table}
+use Rattle.map_read.specs.Judge.{used_in, table_in, map_words, number_in, word_in}
+use Rattle.map_read.specs.Steps.{entries_in, filled}
+use Rattle.map_read.proofs.Entries.{fill_all}
 
--- what the two calls leave of a store
-pub store_cleared : {N : ℕ} {s t : List ℕ} {r : Did} → StoreOf N s → Settled did_paper (clear_of s) r t → t ≡ empty N
-unfolding clear_of
-store_cleared {N} {s} {t} z c = let e : clear_of s ≡ does (empty N) = rw (is_store_lem z, z.names) in c.memory ∙ ap (λ (o : Outcome (List ℕ)). o.lent) e
+-- what the two calls answer and leave of a store
+done_is : {X : Type 0} {o : Outcome X} {x y : X} {r : Result (Unit {0}) Refusal} → o ≡ does y → Settled did_paper o r x → (r ≡ Ok tt) × (x ≡ y)
+done_is {X} {o} {x} {y} {r} e c = (
+  sym (did_paper.same r) ∙ ap did_paper.answer (c.answer ∙ ap (λ (p : Outcome X). p.numbers) e),
+  c.memory ∙ ap (λ (p : Outcome X). p.lent) e,
+)
 
-pub rebuilt : {N : ℕ} {s t : List ℕ} {r : Did} → StoreOf N s → Settled did_paper (rebuild_of s) r t → t ≡ build N (layer0 N s)
-unfolding rebuild_of
-rebuilt {N} {s} {t} z c =
-    let e : rebuild_of s ≡ does (build N (layer0 N s)) = rw (is_store_lem z, z.names) in c.memory ∙ ap (λ (o : Outcome (List ℕ)). o.lent) e
+module _ {N : ℕ} {s t : List ℕ} {r : Result (Unit {0}) Refusal} (z : StoreOf N s) where
+  pub cleared : Settled did_paper (clear_of s) r t → (r ≡ Ok tt) × (t ≡ empty N)
+  unfolding clear_of
+  cleared c = let e : clear_of s ≡ does (empty N) = rw (is_store_lem z, z.names) in done_is e c
 
--- zeros without the first of them
-drop-zeros : (a n : ℕ) → drop {A = ℕ} a (replicate n 0) ≡ replicate (n - a) 0
-drop-zeros zero n = let e : n ≡ n - 0 = omega arith in ap (λ (k : ℕ). replicate {A = ℕ} k 0) e
-drop-zeros (suc a) zero = let e : 0 ≡ 0 - suc a = omega arith in ap (λ (k : ℕ). replicate {A = ℕ} k 0) e
-drop-zeros (suc a) (suc n) = let e : n - a ≡ suc n - suc a = omega arith in drop-zeros a n ∙ ap (λ (k : ℕ). replicate {A = ℕ} k 0) e
+  pub clears : Settled did_paper (clear_of s) r t → {e : Refusal} → r ≡ Err e → ⊥
+  clears c w = let d : r ≡ Ok tt = (cleared c).0 in cc
 
-pub length_fill : (ws : List ℕ) (n : ℕ) (t : List ℕ) → length (fill_table ws n t) ≡ length ws
-unfolding fill_table
-length_fill ws zero t = refl
-length_fill ws (suc n) t = length_fill (set ws (number_in t) (word_in t)) n (behind t) ∙ length-set ws (number_in t) (word_in t)
+  pub rebuilt : Settled did_paper (rebuild_of s) r t → (r ≡ Ok tt) × (t ≡ build N (layer0 N s))
+  unfolding rebuild_of
+  rebuilt c = let e : rebuild_of s ≡ does (build N (layer0 N s)) = rw (is_store_lem z, z.names) in done_is e c
+
+-- the cleared store is one
+pub store_here : {N : ℕ} {s t : List ℕ} → StoreOf N s → t ≡ empty N → StoreOf N t
+store_here z e = rw e (store_empty _ z.some z.most)
+
+pub length_filled : (ws : List ℕ) (es : List (List ℕ)) → length (filled ws es) ≡ length ws
+length_filled ws [] = refl
+length_filled ws (e ∷ es) = length_filled (set ws (number_in e) (word_in e)) es ∙ length-set ws (number_in e) (word_in e)
 
 -- ---- layer 0 of a cleared store, lent from a to e, and back
 
@@ -58,18 +64,11 @@ module _ {N : ℕ} {s : List ℕ} (z : StoreOf N s) {a : ℕ} (start : a ≡ sta
         take_all (length s - a) (drop a s) (omega (arith, length-drop a s))
         ∙ ap (drop a) e
         ∙ ap (λ (k : ℕ). drop k (empty N)) q
-        ∙ drop-zeros (a - 1) (store_len N - 1)
+        ∙ drop-replicate (a - 1) (store_len N - 1) 0
         ∙ ap (λ (k : ℕ). replicate {A = ℕ} k 0) left
       where
         left : store_len N - 1 - (a - 1) ≡ layer_len N 0
         left = omega (arith, size, z.long, start_is, after-header N 1)
-
-    -- the words of a map that was laid over it
-    pub laid : (m : List ℕ) {u : ℕ} {ys : List ℕ} → u ≡ used_in m → ys ≡ fill_table (mid_of a (length s - a) s) u (take (length m - 16) (drop 16 m)) → ys ≡ map_words N m
-    unfolding map_words
-    laid m {u} {ys} eu ey =
-        ey ∙ ap₂ (λ (ws : List ℕ) (n : ℕ). fill_table ws n (take (length m - 16) (drop 16 m))) lent_zeros eu
-        ∙ ap (fill_table (replicate (layer_len N 0) 0) (used_in m)) (lent_table m)
 
   module _ (ys : List ℕ) (long : length ys ≡ layer_len N 0) where
     front : length (take a s) ≡ a
@@ -95,6 +94,23 @@ module _ {N : ℕ} {s : List ℕ} (z : StoreOf N s) {a : ℕ} (start : a ≡ sta
               ∙ get_or-take a s 0 0 (omega (arith, start_is, after-header N 1)) ∙ z.names;
         }
 
-pub length-words : (N : ℕ) (m : List ℕ) → length (map_words N m) ≡ layer_len N 0
+  -- the layer is put over the cleared store, and the layers above are rebuilt
+  module _ (e : s ≡ empty N) (es : List (List ℕ)) {ys : List ℕ} (over : ys ≡ filled (mid_of a (length s - a) s) es) where
+    over_zeros : ys ≡ filled (replicate (layer_len N 0) 0) es
+    over_zeros = over ∙ ap (λ (l : List ℕ). filled l es) (lent_zeros e)
+
+    long : length ys ≡ layer_len N 0
+    long = ap length over_zeros ∙ length_filled (replicate (layer_len N 0) 0) es ∙ length-replicate {A = ℕ} (layer_len N 0) 0
+
+    pub replaced : {t : List ℕ} {r : Result (Unit {0}) Refusal} → Settled did_paper (rebuild_of (put_mid a (length s - a) s ys)) r t
+        → (r ≡ Ok tt) × (t ≡ build N (filled (replicate (layer_len N 0) 0) es))
+    replaced c = let d = rebuilt (store_back ys long) c in (d.0, d.1 ∙ ap (build N) (layer0_back ys long ∙ over_zeros))
+
+-- ---- a map's words
+
+pub words_are_filled : (N : ℕ) (m : List ℕ) → map_words N m ≡ filled (replicate (layer_len N 0) 0) (entries_in m)
 unfolding map_words
-length-words N m = length_fill (replicate (layer_len N 0) 0) (used_in m) (table_in m) ∙ length-replicate {A = ℕ} (layer_len N 0) 0
+words_are_filled N m = fill_all (replicate (layer_len N 0) 0) (used_in m) (table_in m)
+
+pub length-words : (N : ℕ) (m : List ℕ) → length (map_words N m) ≡ layer_len N 0
+length-words N m = ap length (words_are_filled N m) ∙ length_filled (replicate (layer_len N 0) 0) (entries_in m) ∙ length-replicate {A = ℕ} (layer_len N 0) 0

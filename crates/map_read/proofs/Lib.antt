@@ -1,4 +1,4 @@
 pub mod Right
-pub mod Loops
+pub mod Entries
 pub mod Layer
 pub mod Answers

@@ -1,4 +1,3 @@
 pub mod Judge
-pub mod Answer
 pub mod Calls
 pub mod Steps

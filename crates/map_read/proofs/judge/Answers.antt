@@ -1,51 +1,23 @@
 -- `judge` meets its contract.
-use mathlib.Core.Bool.{Bool, true}
-use mathlib.Core.List.{List}
-use mathlib.Core.Path.{◌≡◌, sym, ◌∙◌}
-use Prim.Native.Nat.{ℕ}
-use native.Mathlib.Omega.{arith}
-use Rattle.map_read.specs.Judge.{head_ok}
-use Rattle.map_read.proofs.Right.{HeadIs, head_is, judge_9, judge_5, judge_by_table, table_there}
+use Rattle.std.proofs.lemmas.Result.{err_from_is_err_and}
+use Rattle.map_read.proofs.Right.{wrong_9, wrong_5, entries_there, wrong_entries, taken}
 use Rattle.map_read.proofs.judge.Goals as goal
 
--- past the first test the header is one
-tested : {h : Bool} {m : List ℕ} → h ≡ head_ok m → h ≡ true → HeadIs m
-tested e t = head_is (sym e ∙ t)
+pub returns-in_err-head : goal.returns-in_err-head
+returns-in_err-head c =
+    let p = err_from_is_err_and c.from_residual.result c.from_residual.ensures.1 in
+    rw (p.1, p.2) (wrong_9 c.args.map.now c.args.n c.in_err-head.ensures)
 
-pub returns-then-not-head_ok : goal.returns-then-not-head_ok
-returns-then-not-head_ok c =
-    let a = c.args in
-    sym (judge_9 a.map.now a.n (sym c.head_ok.ensures ∙ c.if-not-head_ok.true))
+pub returns-then-head-n : goal.returns-then-head-n
+returns-then-head-n c = wrong_5 c.args.n c.in_ok-head.ensures c.if-head-n.true
 
-pub get-requires : goal.get-requires
-get-requires c = (omega (arith, (tested c.head_ok.ensures c.if-not-head_ok.false).long), omega arith)
+pub judge_entries-requires : goal.judge_entries-requires
+judge_entries-requires c = entries_there c.args.n c.in_ok-head.ensures c.if-head-n.false
 
-pub returns-then-get-n : goal.returns-then-get-n
-returns-then-get-n c =
-    let a = c.args in
-    sym
-    (judge_5 a.map.now a.n (sym c.head_ok.ensures ∙ c.if-not-head_ok.false)
-    (λ e. omega (arith, c.if-get-n.true, c.get.ensures, e)))
-
-pub get-members-requires : goal.get-members-requires
-get-members-requires c = (omega (arith, (tested c.head_ok.ensures c.if-not-head_ok.false).long), omega arith)
-
-pub get-used-requires : goal.get-used-requires
-get-used-requires c = (omega (arith, (tested c.head_ok.ensures c.if-not-head_ok.false).long), omega arith)
-
-pub slice_bounds-judge_table-count : goal.slice_bounds-judge_table-count
-slice_bounds-judge_table-count c = (tested c.head_ok.ensures c.if-not-head_ok.false).long
-
-pub slice_bounds-judge_table-start : goal.slice_bounds-judge_table-start
-slice_bounds-judge_table-start c = (tested c.head_ok.ensures c.if-not-head_ok.false).long
-
--- past the second test the header names the capacity
-pub judge_table-requires : goal.judge_table-requires
-judge_table-requires c =
-    table_there (tested c.head_ok.ensures c.if-not-head_ok.false)
-    (omega (arith, c.get.ensures, c.if-get-n.false)) c.get-used.ensures
+pub returns-in_err-judge_entries : goal.returns-in_err-judge_entries
+returns-in_err-judge_entries c =
+    let p = err_from_is_err_and c.from_residual-in_err-judge_entries.result c.from_residual-in_err-judge_entries.ensures.1 in
+    rw (p.1, p.2) (wrong_entries c.args.n c.in_ok-head.ensures c.if-head-n.false c.judge_entries.ensures c.in_err-judge_entries.was)
 
 pub returns : goal.returns
-returns c =
-    judge_by_table c.args.map.now (sym c.head_ok.ensures ∙ c.if-not-head_ok.false)
-    (omega (arith, c.get.ensures, c.if-get-n.false)) c.get-used.ensures c.get-members.ensures c.judge_table.ensures
+returns c = taken c.args.n c.in_ok-head.ensures c.if-head-n.false c.judge_entries.ensures c.in_ok-judge_entries.was
