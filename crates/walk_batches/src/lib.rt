@@ -2,10 +2,16 @@
 #![tactic(auto)]
 
 ghost use Rattle.std.specs.Prelude.{◌≡◌};
+ghost use Rattle.std.specs.Iterator.{YieldsFirst};
+ghost use Rattle.std.specs.Iterator.Runs.{YieldsInOrder};
 ghost use Rattle.walk_batches.specs.Calls.{started_of};
+ghost use Rattle.walk_batches.specs.Ids.{ids_left, ids_of};
 ghost use Rattle.walk_batches.specs.Steps.{goes_on};
 
-use walk::Cursor;
+mod each;
+
+pub use each::Ids;
+use walk::{Cursor, Layers, Ready};
 use walk_fill::Stop;
 
 // The cursor of a walk that is started, for a caller with none: zeros where the slice is no store.
@@ -21,7 +27,7 @@ pub fn started(store: &[u64]) -> Cursor
 }
 
 // The largest budget of word reads; a walk that had spent it would go on with the next batch.
-pub const BUDGET: u64 = 18446744073709551615;
+pub const BUDGET: u64 = u64::MAX;
 
 // Whether a walk goes on after a fill.
 pub fn goes_on(stop: Stop) -> bool
@@ -32,5 +38,18 @@ pub fn goes_on(stop: Stop) -> bool
         Stop::Paused => true,
         Stop::End => false,
         Stop::Refused(_) => false,
+    }
+}
+
+// The ids that a walk of a store hands out, one after another; none where the slice is no store.
+pub fn ids(store: &[u64]) -> Ids<'_>
+    ensures left { ids_left result ≡ ids_of store.now }
+    ensures runs { YieldsInOrder (YieldsFirst ids_left) ids_left }
+{
+    Ids {
+        layers: Layers::of(store),
+        ready: Ready {
+            cursor: started(store),
+        },
     }
 }

@@ -1,5 +1,6 @@
 pub mod Taken
 pub mod Rest
+pub mod Same
 pub mod Prefixes
 pub mod Fills
 pub mod Ends

@@ -21,24 +21,18 @@ use Rattle.walk.specs.declared.Next.{Next}
 use Rattle.walk.specs.declared.Next.TheVariants.{Member, Paused, End, Refused}
 use Rattle.walk.specs.declared.Step.{Step}
 use Rattle.walk.proofs.Cursors.{Low, low_found, prefix_top}
+unfoldable pub use Rattle.walk_laws.specs.Rest.{scan, scan_reads, rest, cost}
 use Rattle.walk_laws.specs.Under.{gathered, summed, under, reads_under, all_ids, all_reads}
 use Rattle.walk_laws.proofs.Taken.{Wf, taken_mask, taken_prefix, taken_mask_up, taken_mask_else, taken_prefix_else, taken_wf, handed_wf, start_mask, start_below}
 
 -- ---- one mask
 
 module _ (lw : ℕ → ℕ → ℕ) where
-  -- what is below the set bits of a mask of layer k, at a prefix; and how many words are read below them
-  unfoldable pub scan : ℕ → ℕ → ℕ → List ℕ
-  scan k m p = gathered (λ b. under lw k (p + b)) (bits m)
-
-  unfoldable pub scan_reads : ℕ → ℕ → ℕ → ℕ
-  scan_reads k m p = summed (λ b. reads_under lw k (p + b)) (bits m)
-
-  scan_zero : (k p : ℕ) → scan k 0 p ≡ []
+  scan_zero : (k p : ℕ) → scan lw k 0 p ≡ []
   unfolding scan gathered
   scan_zero k p = ap (gathered (λ b. under lw k (p + b))) bits_zero
 
-  scan_reads_zero : (k p : ℕ) → scan_reads k 0 p ≡ 0
+  scan_reads_zero : (k p : ℕ) → scan_reads lw k 0 p ≡ 0
   unfolding scan_reads summed
   scan_reads_zero k p = ap (summed (λ b. reads_under lw k (p + b))) bits_zero
 
@@ -46,34 +40,25 @@ module _ (lw : ℕ → ℕ → ℕ) where
     split : bits m ≡ count_trailing_zeros 64 m ∷ bits (m - 2 ^ count_trailing_zeros 64 m)
     split = bits_lowest m (count_trailing_zeros 64 m) h (lowest m h pos)
 
-    scan_lowest : scan k m p ≡ under lw k (p + count_trailing_zeros 64 m) ++ scan k (m - 2 ^ count_trailing_zeros 64 m) p
+    scan_lowest : scan lw k m p ≡ under lw k (p + count_trailing_zeros 64 m) ++ scan lw k (m - 2 ^ count_trailing_zeros 64 m) p
     unfolding scan gathered
     scan_lowest = ap (gathered (λ b. under lw k (p + b))) split
 
-    scan_reads_lowest : scan_reads k m p ≡ reads_under lw k (p + count_trailing_zeros 64 m) + scan_reads k (m - 2 ^ count_trailing_zeros 64 m) p
+    scan_reads_lowest : scan_reads lw k m p ≡ reads_under lw k (p + count_trailing_zeros 64 m) + scan_reads lw k (m - 2 ^ count_trailing_zeros 64 m) p
     unfolding scan_reads summed
     scan_reads_lowest = ap (summed (λ b. reads_under lw k (p + b))) split
 
 -- ---- all masks
 
 module _ (lw : ℕ → ℕ → ℕ) (t : ℕ) where
-  -- what the layers below layer n have still to hand out, lowest layer first; and to read
-  unfoldable pub rest : Cursor → ℕ → List ℕ
-  rest c zero = []
-  rest c (suc k) = rest c k ++ scan lw k (get_or c.masks k 0) (prefix_at t c.prefix k)
-
-  unfoldable pub cost : Cursor → ℕ → ℕ
-  cost c zero = 0
-  cost c (suc k) = cost c k + scan_reads lw k (get_or c.masks k 0) (prefix_at t c.prefix k)
-
-  rest_empty : (c : Cursor) (n : ℕ) → ((k : ℕ) → k < n → get_or c.masks k 0 ≡ 0) → rest c n ≡ []
+  pub rest_empty : (c : Cursor) (n : ℕ) → ((k : ℕ) → k < n → get_or c.masks k 0 ≡ 0) → rest lw t c n ≡ []
   unfolding rest
   rest_empty c zero z = refl
   rest_empty c (suc n) z =
       ap₂ (λ (x : List ℕ) (m : ℕ). x ++ scan lw n m (prefix_at t c.prefix n)) (rest_empty c n (λ k h. z k (omega arith))) (z n (omega arith))
       ∙ scan_zero lw n (prefix_at t c.prefix n)
 
-  cost_empty : (c : Cursor) (n : ℕ) → ((k : ℕ) → k < n → get_or c.masks k 0 ≡ 0) → cost c n ≡ 0
+  cost_empty : (c : Cursor) (n : ℕ) → ((k : ℕ) → k < n → get_or c.masks k 0 ≡ 0) → cost lw t c n ≡ 0
   unfolding cost
   cost_empty c zero z = refl
   cost_empty c (suc n) z =
@@ -82,8 +67,8 @@ module _ (lw : ℕ → ℕ → ℕ) (t : ℕ) where
 
   -- what a step moves, of the layers below layer n: x is handed out, r reads are made, and the rest is left
   pub record MovesOn (c d : Cursor) (x : List ℕ) (r n : ℕ) : Type 0 where
-    pub ids : rest c n ≡ x ++ rest d n
-    pub count : cost c n ≡ r + cost d n
+    pub ids : rest lw t c n ≡ x ++ rest lw t d n
+    pub count : cost lw t c n ≡ r + cost lw t d n
 
   -- layers from l on that a step leaves alone
   moves_above : (c d : Cursor) (x : List ℕ) (r l : ℕ)
@@ -92,9 +77,9 @@ module _ (lw : ℕ → ℕ → ℕ) (t : ℕ) where
   unfolding rest cost
   moves_above c d x r l same h = le_ind (λ n. MovesOn c d x r n) h λ k le m. record {
     ids = ap₂ (λ (y : List ℕ) (s : List ℕ). y ++ s) m.ids (ap₂ (scan lw k) (sym (same k le).0) (sym (same k le).1))
-        ∙ append_assoc x (rest d k) (scan lw k (get_or d.masks k 0) (prefix_at t d.prefix k));
+        ∙ append_assoc x (rest lw t d k) (scan lw k (get_or d.masks k 0) (prefix_at t d.prefix k));
     count = ap₂ (λ (y s : ℕ). y + s) m.count (ap₂ (scan_reads lw k) (sym (same k le).0) (sym (same k le).1))
-        ∙ add_assoc r (cost d k) (scan_reads lw k (get_or d.masks k 0) (prefix_at t d.prefix k));
+        ∙ add_assoc r (cost lw t d k) (scan_reads lw k (get_or d.masks k 0) (prefix_at t d.prefix k));
   }
 
 -- ---- one step

@@ -2,7 +2,7 @@
 use mathlib.Core.List.{List}
 use mathlib.Core.Logic.{◌≢◌}
 use mathlib.Core.Path.{◌≡◌, refl, sym, ap, ◌∙◌, subst}
-use Prim.Native.Nat.{ℕ, zero, suc, ◌-◌, ◌*◌, ◌%◌, ◌^◌, ◌≤◌, ◌<◌}
+use Prim.Native.Nat.{ℕ, zero, suc, ◌-◌, ◌*◌, ◌%◌, ◌^◌, ◌<◌}
 use native.Mathlib.Decide.{ℕ_discrete}
 use native.Mathlib.Nat.{one-le-pow}
 use native.Mathlib.Omega.{arith}
@@ -13,13 +13,7 @@ use Rattle.walk.specs.Calls.{Fine}
 use Rattle.walk.specs.Walk.{first_bit, prefix_at, cleared, less, handed, taken, start_at}
 use Rattle.walk.specs.declared.Cursor.{Cursor}
 use Rattle.walk.proofs.Cursors.{prefix_below, prefix_same}
-
--- ---- cursors over the layers 0 to t
-
-pub record Wf (t : ℕ) (c : Cursor) : Type 0 where
-  pub masked : t < length c.masks
-  pub prefixed : t ≤ length c.prefix
-  pub words : (k : ℕ) → get_or c.masks k 0 < 2 ^ 64
+pub use Rattle.walk_laws.specs.Rest.{Wf}
 
 -- the lowest bit of a mask is one of 64
 pub bit_in : {t : ℕ} {c : Cursor} → Wf t c → (k : ℕ) → 0 < get_or c.masks k 0 → first_bit c k < 64

@@ -1,3 +1,4 @@
 pub mod Under
 pub mod Calls
+pub mod Rest
 pub mod Walks
