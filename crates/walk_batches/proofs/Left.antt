@@ -29,7 +29,11 @@ use Rattle.walk_laws.proofs.Rest.{gone, MovedOn, moved_next, rest_empty, start_r
 use Rattle.walk_laws.proofs.Same.{rest_same}
 use Rattle.walk_laws.proofs.Taken.{start_wf, start_fine}
 use Rattle.walk_batches.specs.Calls.{started_of}
-use Rattle.walk_batches.specs.Ids.{ids_of}
+use Rattle.std.specs.Iterator.{YieldsFirst}
+use Rattle.std.proofs.lemmas.Iterator.{YieldsList}
+use Rattle.std.proofs.lemmas.Iterator.Consumers.{YieldsList-from_first}
+use Rattle.walk_batches.specs.Ids.{ids_left, ids_of}
+use Rattle.walk_batches.specs.declared.each.Ids.{Ids}
 use Rattle.walk_batches.specs.Steps.{walked}
 
 spent : {b r : ℕ} → KeptBudget b Paused r → r ≡ b
@@ -134,3 +138,14 @@ module _ (s : Bor (List ℕ)) {l : Layers} (of : LayersOf s l) where
           none (suc (suc zero)) h = refl
           none (suc (suc (suc zero))) h = refl
           none (suc (suc (suc (suc k)))) h = absurd (omega arith)
+
+-- ---- for a caller of `ids`
+
+module _ (s : List ℕ) (i : Ids) (is : is_store s ≡ true) (left_is : ids_left i ≡ ids_of s) where
+  -- on a store they are the ids of its walk
+  pub ids_walked : ids_left i ≡ walked s
+  ids_walked = left_is ∙ rw is
+
+  -- and the iterator gives them, for a chain over it
+  pub ids_yielded : YieldsList (YieldsFirst ids_left) (λ x. x) i (walked s)
+  ids_yielded = YieldsList-from_first (λ x. x) ids_left (walked s) ids_walked
