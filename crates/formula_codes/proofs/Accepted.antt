@@ -1,6 +1,6 @@
 -- What is known where nothing is refused.
 use mathlib.Core.Bool.{Bool, true, false, cond, ◌&&◌}
-use mathlib.Core.List.{List, map}
+use mathlib.Core.List.{List, [], ◌∷◌, map}
 use mathlib.Core.Logic.{◌≢◌}
 use mathlib.Core.Path.{◌≡◌, refl, subst}
 use Prim.Native.Nat.{ℕ, zero, suc, ◌≤◌, min}
@@ -113,3 +113,13 @@ accepted a b c d cs e = outer (eqb (stores_of ss) 0) refl (is_formula ss cs) ref
     outer true q true f e = inner (is_store a) refl (eqb-true (stores_of ss) 0 q) f
     outer true q false f e = absurd (omega (arith, e))
     outer false q y f e = absurd (eqb-false (stores_of ss) 0 q e)
+
+-- ---- any four slices
+
+pub four_slices : (ss : List (List ℕ)) → length ss ≡ 4 → ss ≡ four (nth ss 0) (nth ss 1) (nth ss 2) (nth ss 3)
+four_slices [] l = absurd (omega arith)
+four_slices (a ∷ []) l = absurd (omega arith)
+four_slices (a ∷ b ∷ []) l = absurd (omega arith)
+four_slices (a ∷ b ∷ c ∷ []) l = absurd (omega arith)
+four_slices (a ∷ b ∷ c ∷ d ∷ []) l = refl
+four_slices (a ∷ b ∷ c ∷ d ∷ e ∷ ss) l = absurd (omega arith)

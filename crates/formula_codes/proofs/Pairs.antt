@@ -28,3 +28,5 @@ module _ (code k x y : ℕ) (n : code ≢ 16) (m : code ≢ 17) where
       go : (j : ℕ) → j ≢ 0 → op_word (xor_in j) x y ≡ op_word 17 x y
       go zero h = absurd (h refl)
       go (suc j) h = refl
+
+pub ruleset pairs = (joined_and, joined_or, joined_ids, joined_above)

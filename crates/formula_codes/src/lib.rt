@@ -9,6 +9,7 @@ ghost use Rattle.formula_codes.specs.Formula.{slices, sized};
 ghost use Rattle.formula_codes.specs.Steps.{first_refusal, waiting, waiting_after};
 ghost use Rattle.formula_codes.specs.Tree.{joined, nth};
 
+use ops_word::Op;
 use store::Refusal;
 
 // A formula as it is lent: its codes, and the slices that the codes 0 to 3 name. An empty slice is a store that is not lent.
@@ -27,22 +28,17 @@ impl<'a> Formula<'a> {
     }
 }
 
-use ops_word::Op;
-
 // What a code makes of two words of layer k: 16 and, 17 or, 18 xor, and any other as 18. Above layer 0, xor is or. A match stays a branch, so that
 // no word waits for the code; in this order of the arms the compiled code asks for 16 first.
+#[tactic(auto, using(crate::proofs::Pairs::pairs))]
 pub fn joined(code: u8, k: usize, x: u64, y: u64) -> u64
     ensures { result ≡ joined code k x y }
 {
     match code {
         17 => Op::Or.combine(x, y),
         16 => Op::And.combine(x, y),
-        _ => {
-            if k == 0 {
-                return Op::Xor.combine(x, y);
-            }
-            Op::Or.combine(x, y)
-        }
+        _ if k == 0 => Op::Xor.combine(x, y),
+        _ => Op::Or.combine(x, y),
     }
 }
 

@@ -24,7 +24,7 @@ made_uncut c w k a b x y h = rw (ne_eqb c 19 (λ e. omega arith), ne_eqb c 20 (�
     go false false false false = refl
 
 pub uncut : (k a b : ℕ) (ws cs : List ℕ) (s : Stack) → cuts_in cs ≡ false → evaluated k a ws cs s ≡ evaluated k b ws cs s
-unfolding evaluated cuts_in stepped
+unfolding evaluated stepped
 uncut k a b ws [] s e = refl
 uncut k a b ws (c ∷ cs) s e = go (leb 19 c) refl e (λ z. uncut k a b ws cs (stepped k b ws c s) z)
   where

@@ -1,7 +1,7 @@
 -- The word that the code evaluates is the definition's; and where nothing is refused it is the word of the tree.
 use mathlib.Core.Bool.{Bool, true, false, cond}
 use mathlib.Core.List.{List, [], ◌∷◌, map}
-use mathlib.Core.Path.{◌≡◌, refl, sym, ap, ap₂, ◌∙◌, subst}
+use mathlib.Core.Path.{◌≡◌, refl, sym, ap, ◌∙◌, subst}
 use Prim.Native.Nat.{ℕ, zero, suc, ◌+◌, ◌%◌, ◌≤◌, ◌<◌}
 use native.Mathlib.Omega.{arith}
 use borrow.Author.Tests.{ltb-true, ltb-false}
@@ -13,34 +13,27 @@ use Rattle.store.proofs.Ends.{end_is}
 use Rattle.store.proofs.Geometry.{end_step}
 use Rattle.store.proofs.TopLayer.{top_high}
 use Rattle.store.proofs.Words.{word_in, word_out}
+use Rattle.formula_codes.specs.Check.{check_of}
 use Rattle.formula_codes.specs.Codes.{tree_of, cuts_in}
 use Rattle.formula_codes.specs.Tree.{existing, four, nth, tree_word}
-use Rattle.formula_codes.proofs.Accepted.{Accepted, formula_one}
+use Rattle.formula_codes.proofs.Accepted.{Accepted, accepted, formula_one, four_slices}
 use Rattle.formula_place.specs.Spots.{words_in, places_in, place_of}
 use Rattle.formula_word.specs.Machine.{evaluated, begun, word_at, machine_word}
 use Rattle.formula_word.proofs.Held.{leaves_value}
 use Rattle.formula_word.proofs.Uncut.{uncut}
 
-module _ (a b c d cs : List ℕ) where
-  -- the word that the slices' words at a place make
-  pub word_at_is : (k cut at : ℕ) {w0 w1 w2 w3 r : ℕ} → w0 ≡ get_or a at 0 → w1 ≡ get_or b at 0 → w2 ≡ get_or c at 0 → w3 ≡ get_or d at 0
-      → r ≡ evaluated k cut (w0 ∷ w1 ∷ w2 ∷ w3 ∷ []) cs begun → r ≡ word_at (four a b c d) cs k cut at
-  unfolding word_at
-  word_at_is k cut at e0 e1 e2 e3 r = r ∙ rw (e0, e1, e2, e3)
+-- the bits that exist are looked up only where some code looks at them
+pub word_cut_is : (ss : List (List ℕ)) (cs : List ℕ) (N layer i : ℕ) {at cut r : ℕ} {x : Bool} → at ≡ place_of N (layer % suc top_most) i → x ≡ cuts_in cs
+    → cut ≡ cond x (existing (places_in N (layer % suc top_most)) i) 0 → r ≡ word_at ss cs (layer % suc top_most) cut at → r ≡ machine_word N ss cs layer i
+unfolding word_at machine_word
+word_cut_is ss cs N layer i {at} {cut} {r} {x} e x-is cut-is r-is = r-is ∙ rw (← e) (go x x-is cut-is)
+  where
+    exists : ℕ
+    exists = existing (places_in N (layer % suc top_most)) i
 
-  module _ (N layer i : ℕ) where
-    pub machine_word_is : {at cut r : ℕ} → at ≡ place_of N (layer % suc top_most) i → cut ≡ existing (places_in N (layer % suc top_most)) i
-        → r ≡ word_at (four a b c d) cs (layer % suc top_most) cut at → r ≡ machine_word N (four a b c d) cs layer i
-    unfolding machine_word
-    machine_word_is at cut r = r ∙ ap₂ (word_at (four a b c d) cs (layer % suc top_most)) cut at
-
-    -- the bits that exist are looked up only where some code looks at them
-    pub word_cut_is : {at cut r : ℕ} {x : Bool} → at ≡ place_of N (layer % suc top_most) i → x ≡ cuts_in cs → cut ≡ cond x (existing (places_in N (layer % suc top_most)) i) 0
-        → r ≡ word_at (four a b c d) cs (layer % suc top_most) cut at → r ≡ machine_word N (four a b c d) cs layer i
-    unfolding word_at
-    word_cut_is {at} {cut} {x = true} e x-is cut-is r = machine_word_is e cut-is r
-    word_cut_is {at} {cut} {x = false} e x-is cut-is r =
-        machine_word_is e refl (r ∙ uncut (layer % suc top_most) cut (existing (places_in N (layer % suc top_most)) i) (map (λ s. get_or s at 0) (four a b c d)) cs begun (sym x-is))
+    go : (x : Bool) → x ≡ cuts_in cs → cut ≡ cond x exists 0 → word_at ss cs (layer % suc top_most) cut at ≡ word_at ss cs (layer % suc top_most) exists at
+    go true x-is cut-is = ap (λ (y : ℕ). word_at ss cs (layer % suc top_most) y at) cut-is
+    go false x-is cut-is = uncut (layer % suc top_most) cut exists (map (λ s. get_or s at 0) ss) cs begun (sym x-is)
 
 -- a word of each of a list of slices, and of one by its number
 each : (f : List ℕ → ℕ) (ss : List (List ℕ)) (c : ℕ) → f [] ≡ 0 → get_or (map f ss) c 0 ≡ f (nth ss c)
@@ -87,3 +80,10 @@ machine_tree a b c d cs k i g low =
     ∙ ap (λ (p : ℕ). evaluated k (existing p i) (map (λ s. get_or s (place_of N k i) 0) ss) cs begun) (places_are N k z.some z.most low)
     ∙ leaves_value w k (existing (room N k) i) (map length ss) (map (λ s. get_or s (place_of N k i) 0) ss) cs leaf begun []
     (record { size = refl; few = omega arith; here = refl; tops = tt }) (formula_one ss cs g.formula)
+
+-- the same of any four slices
+pub machine_slices : (ss : List (List ℕ)) (cs : List ℕ) (k i : ℕ) → length ss ≡ 4 → check_of ss cs ≡ 0 → k ≤ top (cap (nth ss 0))
+    → machine_word (cap (nth ss 0)) ss cs k i ≡ tree_word (cap (nth ss 0)) ss (tree_of cs) k i
+machine_slices ss cs k i l e low =
+    let q = four_slices ss l in
+    rw (q) (machine_tree (nth ss 0) (nth ss 1) (nth ss 2) (nth ss 3) cs k i (accepted (nth ss 0) (nth ss 1) (nth ss 2) (nth ss 3) cs (rw q at e)) low)

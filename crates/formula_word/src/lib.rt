@@ -5,32 +5,49 @@
 ghost use Rattle.std.specs.Prelude.{true, ◌≡◌, suc, ◌%◌, ◌≤◌, ◌<◌, length, get_or};
 ghost use Rattle.store.specs.Layout.{top_most};
 ghost use Rattle.formula_codes.specs.Codes.{code_kind};
-ghost use Rattle.formula_codes.specs.Tree.{four};
+ghost use Rattle.formula_codes.specs.Formula.{slices};
 ghost use Rattle.formula_word.specs.Machine.{made_of, moves, evaluated, begun, word_at, machine_word};
-ghost use Rattle.formula_word.specs.Steps.{JoinsTwo, Joins, Evaluating, Turned};
+ghost use Rattle.formula_word.specs.Steps.{held, Joins, Turned};
 
-// What a code makes of the last two values in layer k, where the bits that exist are `cut` and the stores' words are `words`.
-fn made(code: u8, k: usize, cut: u64, words: &[u64; 4], a: u64, b: u64) -> u64
-    ensures { result ≡ made_of (code_kind code) (get_or words.now code 0) k cut a b }
+use formula_codes::Formula;
+
+// What codes are evaluated over: layer k, the bits that exist in the word, and the stores' words.
+#[derive(Clone, Copy)]
+struct Ground<'a> {
+    k: usize,
+    cut: u64,
+    words: &'a [u64; 4],
+}
+
+// The last value that waits, where it will stand among the others in a ring of eight, and the codes that are left.
+#[derive(Clone, Copy)]
+struct Turn<'a> {
+    last: u64,
+    place: usize,
+    rest: &'a [u8],
+    ghost inside: { place < 8 },
+}
+
+// No value waits.
+fn begin(codes: &[u8]) -> Turn<'_>
+    ensures { (result.rest.now ≡ codes.now) × (result.place ≡ 0) × (result.last ≡ 0) }
 {
-    match code {
-        0..=3 => {
-            let i = code as usize;
-            words[i]
-        }
-        16..=18 => formula_codes::joined(code, k, a, b),
-        19 => {
-            if k == 0 {
-                return cut & !b;
-            }
-            cut
-        }
-        20 => cut,
-        _ => b,
+    Turn {
+        last: 0,
+        place: 0,
+        rest: codes,
     }
 }
 
+// Whether the codes begin with two stores and what joins them.
+fn joins(codes: &[u8]) -> bool
+    ensures { result ≡ true → Joins codes.now }
+{
+    matches!(codes, [0..=3, 0..=3, 16..=18, ..])
+}
+
 // How far a code moves the place of the last value, in a ring of eight.
+#[tactic(auto, using(crate::proofs::Arms::moved))]
 fn moves(code: u8) -> usize
     ensures { (result ≡ moves (code_kind code)) × (result ≤ 7) }
 {
@@ -42,196 +59,120 @@ fn moves(code: u8) -> usize
     }
 }
 
-// The values that wait after a turn: the last, and where it will stand; and the code that comes next.
-#[derive(Clone, Copy)]
-struct Turn {
-    last: u64,
-    place: usize,
-    next: usize,
+impl Ground<'_> {
+    // What a code makes of the last two values.
+    #[tactic(auto, using(crate::proofs::Arms::mades))]
+    fn made(&self, code: u8, a: u64, b: u64) -> u64
+        ensures { result ≡ made_of (code_kind code) (get_or self.now.words.now code 0) self.now.k self.now.cut a b }
+    {
+        match code {
+            0..=3 => self.words[code as usize],
+            16..=18 => formula_codes::joined(code, self.k, a, b),
+            19 => if self.k == 0 { self.cut & !b } else { self.cut },
+            20 => self.cut,
+            _ => b,
+        }
+    }
+
+    // One code: the last value goes to its place, and the code's is the last.
+    #[tactic(auto, using(crate::proofs::Arms::turned_one))]
+    fn one<'c>(&self, t: Turn<'c>, stack: &mut [u64; 8]) -> Turn<'c>
+        requires { 0 < length t.rest.now }
+        ensures { Turned self.now (held stack.old t.entry.place t.entry.last) t.entry.rest.now
+            (held stack.new result.place result.last) result.rest.now }
+    {
+        let code = t.rest[0];
+        stack[t.place] = t.last;
+        let below = stack[(t.place + 7) % 8];
+        Turn {
+            last: self.made(code, below, t.last),
+            place: (t.place + moves(code)) % 8,
+            rest: &t.rest[1..],
+        }
+    }
+
+    // Three codes at a time, where two stores are joined, and a fourth that joins what waits with them: no value waits for the stack, which
+    // is left as the codes leave it one by one.
+    #[tactic(auto, using(crate::proofs::Arms::turned_three))]
+    fn three<'c>(&self, t: Turn<'c>, stack: &mut [u64; 8]) -> Turn<'c>
+        requires { Joins t.rest.now }
+        ensures { Turned self.now (held stack.old t.entry.place t.entry.last) t.entry.rest.now
+            (held stack.new result.place result.last) result.rest.now }
+    {
+        let a = self.words[t.rest[0] as usize];
+        let b = self.words[t.rest[1] as usize];
+        let e = (t.place + 1) % 8;
+        stack[t.place] = t.last;
+        stack[e] = a;
+        stack[(t.place + 2) % 8] = b;
+        let v = formula_codes::joined(t.rest[2], self.k, a, b);
+        let rest = &t.rest[3..];
+        if let [op @ 16..=18, rest @ ..] = rest {
+            stack[e] = v;
+            return Turn {
+                last: formula_codes::joined(*op, self.k, t.last, v),
+                place: t.place,
+                rest,
+            };
+        }
+        Turn {
+            last: v,
+            place: e,
+            rest,
+        }
+    }
+
+    // The next codes, one or three.
+    fn turn<'c>(&self, t: Turn<'c>, stack: &mut [u64; 8]) -> Turn<'c>
+        requires { 0 < length t.rest.now }
+        ensures { Turned self.now (held stack.old t.entry.place t.entry.last) t.entry.rest.now
+            (held stack.new result.place result.last) result.rest.now }
+    {
+        if joins(t.rest) {
+            self.three(t, stack)
+        } else {
+            self.one(t, stack)
+        }
+    }
+
+    // The codes one after another. Where they begin with two stores that are joined, these are a turn by themselves: nothing waits yet, so
+    // that the places in the stack are known to the compiler.
+    #[tactic(auto, unfolding(crate::specs::Machine::evaluated))]
+    fn evaluate(&self, codes: &[u8]) -> u64
+        ensures { result ≡ evaluated self.now.k self.now.cut self.now.words.now codes.now begun }
+    {
+        let mut stack = [0; 8];
+        let mut t = begin(codes);
+        if joins(codes) {
+            t = self.three(t, &mut stack);
+        }
+        while !t.rest.is_empty() {
+            t = self.turn(t, &mut stack);
+        }
+        t.last
+    }
 }
 
-// One code: the last value goes to its place, and the code's is the last.
-fn one(
-    codes: &[u8],
-    j: usize,
-    k: usize,
-    cut: u64,
-    words: &[u64; 4],
-    stack: &mut [u64],
-    d: usize,
-    last: u64,
-) -> Turn
-    requires { (j < length codes.now) × (length stack.old ≡ 8) × (d < 8) }
-    ensures { Turned k cut words.now codes.now j stack.old d last stack.new result }
+// A layer's word of a formula, made of its slices' words at one place, where the bits that exist are `cut`. Layers count modulo their number.
+#[tactic(auto, unfolding(crate::specs::Machine::word_at))]
+pub fn word_at(f: &Formula<'_>, layer: usize, cut: u64, at: usize) -> u64
+    ensures { result ≡ word_at (slices f.now) f.now.codes.now (layer % suc top_most) cut at }
 {
-    let code = codes[j];
-    stack[d] = last;
-    let a = stack[(d + 7) % 8];
-    Turn {
-        last: made(code, k, cut, words, a, last),
-        place: (d + moves(code)) % 8,
-        next: j + 1,
-    }
+    let words = f.stores.map(|s| store::get(s, at));
+    let ground = Ground {
+        k: layer % store::LAYERS,
+        cut,
+        words: &words,
+    };
+    ground.evaluate(f.codes)
 }
 
-// Whether code j joins two values.
-fn joins_two(codes: &[u8], j: usize) -> bool
-    ensures { result ≡ true → JoinsTwo codes.now j }
-{
-    if codes.len() <= j {
-        return false;
-    }
-    if codes[j] < 16 {
-        return false;
-    }
-    codes[j] < 19
-}
-
-// Whether the codes from code j on begin with two stores and what joins them.
-fn joins(codes: &[u8], j: usize) -> bool
-    requires { j ≤ length codes.now }
-    ensures { result ≡ true → Joins codes.now j }
-{
-    if !joins_two(codes, j + 2) {
-        return false;
-    }
-    if 3 < codes[j] {
-        return false;
-    }
-    codes[j + 1] < 4
-}
-
-// Three codes at a time, where two stores are joined, and a fourth that joins what waits with them: no value waits for the stack, which is
-// left as the codes leave it one by one.
-fn three(
-    codes: &[u8],
-    j: usize,
-    k: usize,
-    cut: u64,
-    words: &[u64; 4],
-    stack: &mut [u64],
-    d: usize,
-    last: u64,
-) -> Turn
-    requires { (Joins codes.now j) × (length stack.old ≡ 8) × (d < 8) }
-    ensures { Turned k cut words.now codes.now j stack.old d last stack.new result }
-{
-    let x = codes[j] as usize;
-    let y = codes[j + 1] as usize;
-    let a = words[x];
-    let b = words[y];
-    let e = (d + 1) % 8;
-    let f = (d + 2) % 8;
-    stack[d] = last;
-    stack[e] = a;
-    stack[f] = b;
-    let v = formula_codes::joined(codes[j + 2], k, a, b);
-    if joins_two(codes, j + 3) {
-        stack[e] = v;
-        return Turn {
-            last: formula_codes::joined(codes[j + 3], k, last, v),
-            place: d,
-            next: j + 4,
-        };
-    }
-    Turn {
-        last: v,
-        place: e,
-        next: j + 3,
-    }
-}
-
-// The codes from code j on, one or three.
-fn next_turn(
-    codes: &[u8],
-    j: usize,
-    k: usize,
-    cut: u64,
-    words: &[u64; 4],
-    stack: &mut [u64],
-    d: usize,
-    last: u64,
-) -> Turn
-    requires { (j < length codes.now) × (length stack.old ≡ 8) × (d < 8) }
-    ensures { Turned k cut words.now codes.now j stack.old d last stack.new result }
-{
-    if joins(codes, j) {
-        return three(codes, j, k, cut, words, stack, d, last);
-    }
-    one(codes, j, k, cut, words, stack, d, last)
-}
-
-// The first codes, where two stores are joined: nothing waits yet, so that the places in the stack are known to the compiler.
-fn opening(codes: &[u8], k: usize, cut: u64, words: &[u64; 4], stack: &mut [u64]) -> Turn
-    requires { stack.old ≡ begun.words }
-    ensures { Evaluating k cut words.now codes.now stack.new result.place result.last result.next }
-{
-    if joins(codes, 0) {
-        return three(codes, 0, k, cut, words, stack, 0, 0);
-    }
-    Turn {
-        last: 0,
-        place: 0,
-        next: 0,
-    }
-}
-
-// The codes one after another: the last value stands in `last`, those before it in the stack.
-fn evaluate(codes: &[u8], k: usize, cut: u64, words: &[u64; 4]) -> u64
-    ensures { result ≡ evaluated k cut words.now codes.now begun }
-{
-    let mut stack = [0u64; 8];
-    let o = opening(codes, k, cut, words, &mut stack);
-    let mut d = o.place;
-    let mut last = o.last;
-    let mut j = o.next;
-    while j < codes.len() {
-        let t = next_turn(codes, j, k, cut, words, &mut stack, d, last);
-        last = t.last;
-        d = t.place;
-        j = t.next;
-    }
-    last
-}
-
-// A layer's word of a formula over four slices, made of their words at one place, where the bits that exist are `cut`.
-pub fn word_at(
-    codes: &[u8],
-    layer: usize,
-    cut: u64,
-    at: usize,
-    s0: &[u64],
-    s1: &[u64],
-    s2: &[u64],
-    s3: &[u64],
-) -> u64
-    ensures { let ss = four s0.now s1.now s2.now s3.now in
-        result ≡ word_at ss codes.now (layer % suc top_most) cut at }
-{
-    let words = [
-        store::get(s0, at),
-        store::get(s1, at),
-        store::get(s2, at),
-        store::get(s3, at),
-    ];
-    evaluate(codes, layer % store::LAYERS, cut, &words)
-}
-
-// Word i of a layer of a formula over four slices, those that are stores being of capacity n; layers count modulo their number.
-pub fn word(
-    codes: &[u8],
-    n: usize,
-    layer: usize,
-    i: usize,
-    s0: &[u64],
-    s1: &[u64],
-    s2: &[u64],
-    s3: &[u64],
-) -> u64
-    ensures { let ss = four s0.now s1.now s2.now s3.now in
-        result ≡ machine_word n ss codes.now layer i }
+// Word i of a layer of a formula over four slices, those that are stores being of capacity n. Layers count modulo their number.
+#[tactic(auto, unfolding(crate::specs::Machine::machine_word))]
+pub fn word(f: &Formula<'_>, n: usize, layer: usize, i: usize) -> u64
+    ensures { result ≡ machine_word n (slices f.now) f.now.codes.now layer i }
 {
     let cut = formula_place::cut(true, n, layer, i);
     let at = formula_place::spot(n, layer, i);
-    word_at(codes, layer, cut, at, s0, s1, s2, s3)
+    word_at(f, layer, cut, at)
 }
