@@ -1,143 +1,116 @@
--- A line joined byte by byte.
-use Rattle.std.proofs.Common.{◌≡◌, refl, sym, ap, ◌∙◌, ℕ, suc, ◌+◌, ◌≤◌, ◌<◌, min, max, cond, eqb, List, [], ◌∷◌, length, drop, get_or, set, arith, add-one, lt-ltb, le-ltb, eq-eqb, ne_eqb, Some, None}
-use Rattle.std.proofs.Math.ListN.{length-set, length-drop, drop_of_length-le}
-use Rattle.std.proofs.Math.Seq.{drop-cons, set_out, sets}
-use native.Mathlib.Decide.{dec_lt, ℕ_discrete}
+-- A line joined of parts of pieces.
+use Rattle.std.proofs.Common.{◌≡◌, refl, sym, ap, ◌∙◌, ℕ, zero, suc, ◌+◌, ◌-◌, ◌≤◌, ◌<◌, min, max, cond, ltb, ◌==◌, List, [], ◌∷◌, ◌++◌, length, take, drop, set, position, append_assoc, length-take-le, arith, lt-ltb, le-ltb, Some, None}
+use Rattle.std.proofs.Math.ListN.{length-set, length-drop, length-take, drop_of_length-le}
+use Rattle.std.proofs.Math.Seq.{set_out, sets, take_all}
+use Rattle.std.proofs.lemmas.List.Edits.{sets-eq}
+use Rattle.std.specs.List.{position_or_len, slice_range}
+use Rattle.std.proofs.lemmas.Bool.Decides.{nat_tests}
+use borrow.Rule.Slice.PartMut.{put_mid, Post-is}
+use native.Mathlib.Decide.{dec_lt}
 use Rattle.text_out.specs.Out.{Held, holding}
-use Rattle.text_in.specs.Line.{held_line, keep_of, up_to, Taken, taken_text, ends_at, gather_of}
-use Rattle.text_in.specs.declared.Line.{Line}
+use Rattle.text_in.specs.Line.{joined, up_to, Taken, taken_text, ends_at, gather_of}
 
-module _ (line : List ℕ) (len b : ℕ) where
-  pub keep-room : len < length line → keep_of (holding line len) b ≡ holding (set line len b) (len + 1)
-  unfolding keep_of
-  keep-room h = simp (lt-ltb _ _ h)
+-- ---- bytes behind a line
 
-  pub keep-full : length line ≤ len → keep_of (holding line len) b ≡ holding line len
-  unfolding keep_of
-  keep-full h = simp (le-ltb _ _ h)
-
--- bytes that are put past the end are dropped
+-- those that are put past the end are dropped
 dropped : (bs line : List ℕ) (len : ℕ) → length line ≤ len → sets line len bs ≡ line
 dropped [] line len h = refl
 dropped (b ∷ bs) line len h =
     ap (λ (l : List ℕ). sets l (suc len) bs) (set_out line len b h) ∙ dropped bs line (suc len) (omega arith)
 
--- how long a line is with n bytes more
-abbrev longer : Held → ℕ → ℕ
-longer h n = max h.at (min (h.at + n) (length h.buf))
+-- so those that fit are enough
+enough : (bs line : List ℕ) (len n : ℕ) → length line ≤ len + n → sets line len (take n bs) ≡ sets line len bs
+enough [] line len zero h = refl
+enough [] line len (suc n) h = refl
+enough (b ∷ bs) line len zero h = sym (dropped (b ∷ bs) line len (omega arith))
+enough (b ∷ bs) line len (suc n) h = enough bs (set line len b) (suc len) n (omega (arith, length-set line len b))
 
--- one byte kept and then the rest: the same line, as long
-module _ (line : List ℕ) (len b : ℕ) (bs : List ℕ) where
-  abbrev Kept : Held → Type 0
-  Kept k =
-      (sets k.buf k.at bs ≡ sets line len (b ∷ bs)) × (longer k (length bs) ≡ longer (holding line len) (suc (length bs)))
+-- what `copy_from_slice` leaves
+copied : (line : List ℕ) (at n : ℕ) (bs : List ℕ) → at + n ≤ length line → length bs ≡ n → put_mid at (at + n - at) line bs ≡ sets line at bs
+copied line at n bs h l =
+    ap (λ (z : List ℕ). take at line ++ (bs ++ z)) (Post-is at (at + n) line (omega arith) ∙ ap (λ (k : ℕ). drop (at + k) line) (sym l))
+    ∙ sym (append_assoc (take at line) bs (drop (at + length bs) line))
+    ∙ sym (sets-eq bs line at (omega arith))
 
-  kept : Kept (keep_of (holding line len) b)
-  kept = go (dec_lt len (length line))
-    where
-      go : Dec (len < length line) → Kept (keep_of (holding line len) b)
-      go (yes h) = rw keep-room (rw add-one, omega (arith, length-set line len b))
-      go (no h) =
-          let l : length line ≤ len = omega arith in
-          rw (keep-full line len b l) (dropped bs line len l ∙ sym (dropped (b ∷ bs) line len l), omega arith)
-
-module _ (h : Held) (piece : List ℕ) (i : ℕ) where
-  -- past the last byte
-  gather_end : length piece ≤ i → gather_of h piece i ≡ taken_text h None
-  unfolding gather_of ends_at up_to
-  gather_end l =
-      let e : longer h 0 ≡ h.at = omega arith in
-      let z : i + 0 ≡ i = omega arith in
-      simp (drop_of_length-le piece l, e, z, le-ltb _ _ l)
-
-  module _ (l : i < length piece) where
-    -- at a newline
-    gather_line_lem : get_or piece i 0 ≡ 10 → gather_of h piece i ≡ taken_text h (Some (i + 1))
-    unfolding gather_of ends_at up_to
-    gather_line_lem nl =
-        let e : longer h 0 ≡ h.at = omega arith in
-        let z : i + 0 ≡ i = omega arith in
-        simp (drop-cons piece i 0 l, eq-eqb _ _ nl, e, z, lt-ltb _ _ l)
-
-    -- at any other byte
-    run_more : (get_or piece i 0 ≡ 10 → ⊥) → up_to (drop i piece) ≡ get_or piece i 0 ∷ up_to (drop (i + 1) piece)
-    unfolding up_to
-    run_more other = simp (drop-cons piece i 0 l, ne_eqb _ _ other, add-one)
-
-    gather_turn : (get_or piece i 0 ≡ 10 → ⊥) → gather_of (keep_of h (get_or piece i 0)) piece (i + 1) ≡ gather_of h piece i
-    unfolding gather_of
-    gather_turn other =
-        let run = up_to (drop (i + 1) piece) in
-        let more : i + 1 + length run ≡ i + suc (length run) = omega arith in
-        let same = kept h.buf h.at (get_or piece i 0) run in
-        rw (run_more other, same.0, same.1, more)
-
--- The loop: what is left of the piece, joined behind what was kept of it, is the whole.
-pub record Gathering (old : Line) (piece : List ℕ) (from : ℕ) (line : Line) (i : ℕ) : Type 0 where
-  pub buffer : line.buf.ghost_name ≡ old.buf.ghost_name
-  pub same : gather_of (held_line line) piece i ≡ gather_of (held_line old) piece from
-
-pub gathers_none : (line : Line) (piece : List ℕ) (from : ℕ) → Gathering line piece from line from
-gathers_none line piece from = record { buffer = refl; same = refl }
-
-module _ {old : Line} {piece : List ℕ} {from : ℕ} {line : Line} {i : ℕ} (g : Gathering old piece from line i) where
-  pub gathers_end : length piece ≤ i → taken_text (held_line line) None ≡ gather_of (held_line old) piece from
-  gathers_end h = sym (gather_end (held_line line) piece i h) ∙ g.same
-
-  module _ (h : i < length piece) where
-    pub gathers_line : get_or piece i 0 ≡ 10 → taken_text (held_line line) (Some (i + 1)) ≡ gather_of (held_line old) piece from
-    gathers_line nl = sym (gather_line_lem (held_line line) piece i h nl) ∙ g.same
-
-    pub gathers_turn : (get_or piece i 0 ≡ 10 → ⊥) → {new : Line} → new.buf.ghost_name ≡ line.buf.ghost_name
-        → held_line new ≡ keep_of (held_line line) (get_or piece i 0) → Gathering old piece from new (i + 1)
-    gathers_turn other n e =
-        record {
-          buffer = n ∙ g.buffer;
-          same = ap (λ (k : Held). gather_of k piece (i + 1)) e ∙ gather_turn (held_line line) piece i h other ∙ g.same;
-        }
-
--- What a caller knows of the place where the next line starts: it is past `from` and inside the piece.
-gather_goes_on : (h : Held) (piece : List ℕ) (from : ℕ) {next : ℕ} → Some next ≡ (gather_of h piece from).next
-    → (from < next) × (next ≤ length piece)
-unfolding gather_of ends_at
-gather_goes_on h piece from {next} e = go (dec_lt end (length piece))
+-- as many as fit, at the line's end or where the buffer ends before it
+pub keeps : (h : Held) (bs : List ℕ) {at n : ℕ} → at ≡ min h.at (length h.buf) → n ≡ min (length bs) (length h.buf - at)
+    → holding (put_mid at (at + n - at) h.buf (take n bs)) (h.at + n) ≡ joined h bs
+keeps h bs {at} {n} a m = go (dec_lt (length h.buf) h.at)
   where
-    end : ℕ
-    end = from + length (up_to (drop from piece))
+    long : h.at + n ≡ max h.at (min (h.at + length bs) (length h.buf))
+    long = omega arith
 
-    go : Dec (end < length piece) → (from < next) × (next ≤ length piece)
+    whole : put_mid at (at + n - at) h.buf (take n bs) ≡ sets h.buf at bs
+    whole = copied h.buf at n (take n bs) (omega arith) (omega (arith, length-take n bs)) ∙ all (dec_lt n (length bs))
+      where
+        all : Dec (n < length bs) → sets h.buf at (take n bs) ≡ sets h.buf at bs
+        all (yes l) = enough bs h.buf at n (omega arith)
+        all (no l) = ap (sets h.buf at) (take_all n bs (omega arith))
+
+    go : Dec (length h.buf < h.at) → holding (put_mid at (at + n - at) h.buf (take n bs)) (h.at + n) ≡ joined h bs
     go (yes l) =
-        let is = e ∙ ap (λ t. cond t (Some (end + 1)) None) (lt-ltb end (length piece) l) in
-        let n : next ≡ end + 1 = cc in
-        (omega arith, omega arith)
-    go (no l) =
-        let none = e ∙ ap (λ t. cond t (Some (end + 1)) None) (le-ltb end (length piece) (omega arith)) in
-        absurd (let z : ◌≡◌ {A = ℕ} 0 1 = cc in omega arith)
+        let past = dropped bs h.buf at (omega arith) ∙ sym (dropped bs h.buf h.at (omega arith)) in
+        rw (whole, long, past)
+    go (no l) = let e : at ≡ h.at = omega arith in rw (whole, long, e)
+
+-- ---- the part of a piece
+
+-- what `position` says of the place before which nothing passes
+place_none : (k m : ℕ) → None ≡ cond (ltb k m) (Some k) None → m ≤ k
+place_none k m e = grind (arith, nat_tests)
+
+place_some : (k m : ℕ) {n : ℕ} → Some n ≡ cond (ltb k m) (Some k) None → (n ≡ k) × (n < m)
+place_some k m e = (grind (arith, nat_tests), grind (arith, nat_tests))
+
+module _ (h : Held) (piece : List ℕ) (from : ℕ) where
+  -- past the end nothing is taken
+  pub gather_past : length piece < from → taken_text h None ≡ gather_of h piece from
+  unfolding gather_of ends_at
+  gather_past l =
+      let none : length piece ≤ from = omega arith in
+      let e : max h.at (min (h.at + 0) (length h.buf)) ≡ h.at = omega arith in
+      let z : length piece ≤ from + 0 = omega arith in
+      sym (simp (drop_of_length-le piece none, e, le-ltb _ _ z))
+
+  module _ (rest : List ℕ) (l : from ≤ length piece) (is : rest ≡ slice_range piece from (length piece)) where
+    left : drop from piece ≡ rest
+    left = sym (is ∙ take_all (length piece - from) (drop from piece) (omega (arith, length-drop from piece)))
+
+    long : from + length rest ≡ length piece
+    long = omega (arith, ap length left, length-drop from piece)
+
+    -- no newline: all that is left
+    pub gather_rest : None ≡ position (λ b. b == 10) rest → taken_text (joined h rest) None ≡ gather_of h piece from
+    unfolding gather_of ends_at
+    gather_rest none =
+        let whole = take_all (position_or_len (λ b. b == 10) rest) rest (place_none _ _ none) in
+        let z : length piece ≤ from + length rest = omega (arith, long) in
+        sym (rw (left, whole, le-ltb _ _ z))
+
+    -- a newline: what stands in front of it
+    pub gather_front : {n : ℕ} → Some n ≡ position (λ b. b == 10) rest → taken_text (joined h (take n rest)) (Some (from + n + 1)) ≡ gather_of h piece from
+    unfolding gather_of ends_at
+    gather_front {n} some =
+        let at = place_some (position_or_len (λ b. b == 10) rest) (length rest) some in
+        let inside : from + n < length piece = omega (arith, long, at.1) in
+        sym (rw (left, ← at.0, length-take-le n rest (omega (arith, at.1)), lt-ltb _ _ inside))
+
+-- ---- what a caller knows of the place where the next line starts
+
+module _ (h : Held) (piece : List ℕ) (from : ℕ) where
+  -- it is past `from` and inside the piece
+  goes_on : {next : ℕ} → Some next ≡ (gather_of h piece from).next → (from < next) × (next ≤ length piece)
+  unfolding gather_of ends_at
+  goes_on e = (grind (arith, nat_tests), grind (arith, nat_tests))
+
+  -- and where none starts, the piece is used up
+  pub line_uses_up : None ≡ (gather_of h piece from).next → from + length (up_to (drop from piece)) ≡ max from (length piece)
+  unfolding gather_of ends_at
+  line_uses_up e =
+      let run = up_to (drop from piece) in
+      let past : length piece ≤ from + length run = grind (arith, nat_tests) in
+      omega (arith, past, length-drop from piece, length-take (position_or_len (λ b. b == 10) (drop from piece)) (drop from piece))
 
 pub line_goes_on : (h : Held) (piece : List ℕ) (from : ℕ) {t : Taken} {next : ℕ} → t ≡ gather_of h piece from → Some next ≡ t.next
     → (from < next) × (next ≤ length piece)
-line_goes_on h piece from e n = gather_goes_on h piece from (n ∙ ap (λ (t : Taken). t.next) e)
-
--- And where none starts, the piece is used up.
-run_short : (bs : List ℕ) → length (up_to bs) ≤ length bs
-unfolding up_to
-run_short [] = omega arith
-run_short (b ∷ bs) = go (run_short bs) (ℕ_discrete b 10)
-  where
-    go : length (up_to bs) ≤ length bs → Dec (b ≡ 10) → length (cond (eqb b 10) [] (b ∷ up_to bs)) ≤ suc (length bs)
-    go rest (yes e) = rw (eq-eqb b 10 e) (omega arith)
-    go rest (no e) = rw (ne_eqb b 10 e) (omega arith)
-
-pub line_uses_up : (h : Held) (piece : List ℕ) (from : ℕ) → None ≡ (gather_of h piece from).next
-    → from + length (up_to (drop from piece)) ≡ max from (length piece)
-unfolding gather_of ends_at
-line_uses_up h piece from e = go (dec_lt end (length piece))
-  where
-    end : ℕ
-    end = from + length (up_to (drop from piece))
-
-    go : Dec (end < length piece) → end ≡ max from (length piece)
-    go (yes l) =
-        let some = e ∙ ap (λ t. cond t (Some (end + 1)) None) (lt-ltb end (length piece) l) in
-        absurd (let z : ◌≡◌ {A = ℕ} 0 1 = cc in omega arith)
-    go (no l) = omega (arith, run_short (drop from piece), length-drop from piece)
+line_goes_on h piece from e n = goes_on h piece from (n ∙ ap (λ (t : Taken). t.next) e)

@@ -1,5 +1,6 @@
 -- Lines joined from pieces of input.
-use Rattle.std.specs.Prelude.{cond, List, [], ◌∷◌, ℕ, ◌+◌, min, max, eqb, ltb, length, drop, set, Option, Some, None}
+use Rattle.std.specs.Prelude.{cond, List, ℕ, ◌+◌, ◌==◌, min, max, ltb, length, drop, Option, Some, None}
+use Rattle.std.specs.List.{before_first}
 use Rattle.std.proofs.lemmas.List.Edits.{sets}
 use Rattle.text_out.specs.Out.{Held, holding}
 use Rattle.text_in.specs.declared.Line.{Line}
@@ -8,14 +9,13 @@ use Rattle.text_in.specs.declared.Line.{Line}
 abbrev pub held_line : Line → Held
 held_line line = holding line.buf.now line.len
 
--- a byte behind the line, if it fits
-unfoldable pub keep_of : Held → ℕ → Held
-keep_of h b = cond (ltb h.at (length h.buf)) (holding (set h.buf h.at b) (h.at + 1)) h
+-- bytes behind the line, as many as fit
+abbrev pub joined : Held → List ℕ → Held
+joined h bs = holding (sets h.buf h.at bs) (max h.at (min (h.at + length bs) (length h.buf)))
 
 -- the bytes in front of the first newline
-unfoldable pub up_to : List ℕ → List ℕ
-up_to [] = []
-up_to (b ∷ bs) = cond (eqb b 10) [] (b ∷ up_to bs)
+abbrev pub up_to : List ℕ → List ℕ
+up_to bs = before_first (λ b. b == 10) bs
 
 -- the line, and the place where the next one starts
 pub record Taken : Type 0 where
@@ -33,5 +33,4 @@ ends_at size line end = taken_text line (cond (ltb end size) (Some (end + 1)) No
 unfoldable pub gather_of : Held → List ℕ → ℕ → Taken
 gather_of h piece from =
     let run = up_to (drop from piece) in
-    ends_at (length piece)
-    (holding (sets h.buf h.at run) (max h.at (min (h.at + length run) (length h.buf)))) (from + length run)
+    ends_at (length piece) (joined h run) (from + length run)

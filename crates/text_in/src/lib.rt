@@ -1,8 +1,8 @@
 // What the programs read: lines joined from pieces of input, and decimal numbers in them.
 #![tactic(auto)]
 
-ghost use Rattle.std.specs.Prelude.{◌≡◌, slice_get, take, drop};
-ghost use Rattle.text_in.specs.Line.{held_line, keep_of, taken_text, gather_of};
+ghost use Rattle.std.specs.Prelude.{◌≡◌, ◌==◌, slice_get, take, drop, position};
+ghost use Rattle.text_in.specs.Line.{held_line, joined, taken_text, gather_of};
 ghost use Rattle.text_in.specs.Number.{digits, number_of};
 
 // A line as it is joined: the first `len` bytes of a lent buffer.
@@ -21,33 +21,38 @@ impl Line<'_> {
         &self.buf[..n]
     }
 
-    // Puts a byte behind the line, if it fits.
-    fn keep(&mut self, b: u8)
+    // Puts bytes behind the line, as many as fit.
+    fn keep(&mut self, bytes: &[u8])
         ensures buffer { self.new.buf.ghost_name ≡ self.old.buf.ghost_name }
-        ensures kept { held_line self.new ≡ keep_of (held_line self.old) b }
+        ensures kept { held_line self.new ≡ joined (held_line self.old) bytes.now }
     {
-        if self.len < self.buf.len() {
-            self.buf[self.len] = b;
-            self.len += 1;
-        }
+        let at = self.len.min(self.buf.len());
+        let n = bytes.len().min(self.buf.len() - at);
+        self.buf[at..at + n].copy_from_slice(&bytes[..n]);
+        self.len += n;
     }
 
     // Takes the bytes of `piece` from `from` on, up to and without a newline, behind the line, and answers where the next line starts, if
     // a newline ended this one. Bytes that do not fit are dropped, so a line that fills the buffer may have been longer.
-    #[tactic(auto, using(crate::proofs::Lines::gathers_line))]
     pub fn gather(&mut self, piece: &[u8], from: usize) -> Option<usize>
         ensures buffer { self.new.buf.ghost_name ≡ self.old.buf.ghost_name }
         ensures taken { taken_text (held_line self.new) result ≡ gather_of (held_line self.old) piece.now from }
     {
-        for i in from..piece.len() {
-            let b = piece[i];
-            if b == b'\n' {
-                return Some(i + 1);
-            }
-            self.keep(b);
-        }
-        None
+        let rest = piece.get(from..)?;
+        let Some(end) = newline(rest) else {
+            self.keep(rest);
+            return None;
+        };
+        self.keep(&rest[..end]);
+        Some(from + end + 1)
     }
+}
+
+// Where the first newline stands, if one does.
+fn newline(bytes: &[u8]) -> Option<usize>
+    ensures { result ≡ position (λ b. b == 10) bytes.now }
+{
+    bytes.iter().position(|b| *b == b'\n')
 }
 
 // The digit that stands at a place, if one does.

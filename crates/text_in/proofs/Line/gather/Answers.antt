@@ -1,10 +1,17 @@
 use Rattle.std.proofs.Common.{arith}
-use Rattle.text_in.proofs.Lines.{gathers_turn, gathers_end}
+use Rattle.text_in.proofs.Lines.{gather_past, gather_rest, gather_front}
 use Rattle.text_in.proofs.Line.gather.Goals as goal
 
-pub loop-i-preserved : goal.loop-i-preserved
-loop-i-preserved c =
-    gathers_turn c.loop-i.invariant c.loop-i-test.true (λ e. omega arith) c.keep.ensures.buffer c.keep.ensures.kept
+pub returns-in_err-rest-clause-taken : goal.returns-in_err-rest-clause-taken
+returns-in_err-rest-clause-taken c =
+    rw c.from_residual.ensures (gather_past _ _ _ (omega (arith, c.in_err-rest.ensures.lookup.0)))
+
+pub returns-in_default-clause-taken : goal.returns-in_default-clause-taken
+returns-in_default-clause-taken c =
+    let rest = c.in_ok-rest.ensures.lookup.0 in
+    rw c.keep.ensures.kept (gather_rest _ _ _ _ rest.0 rest.2 c.in_default.ensures)
 
 pub returns-clause-taken : goal.returns-clause-taken
-returns-clause-taken c = gathers_end c.loop-i.invariant c.loop-i-test.false
+returns-clause-taken c =
+    let rest = c.in_ok-rest.ensures.lookup.0 in
+    rw c.keep-2.ensures.kept (gather_front _ _ _ _ rest.0 rest.2 c.in-Some.ensures)
