@@ -10,3 +10,4 @@ pub mod Parts
 pub mod Answers
 pub mod Judged
 pub mod Exits
+pub mod Inside
