@@ -3,7 +3,7 @@ use mathlib.Core.Bool.{Bool, true, false, not, true≢false}
 use mathlib.Core.List.{List}
 use mathlib.Core.Logic.{◌≢◌, ◌⊎◌, inl, inr, ⊎_elim}
 use mathlib.Core.Path.{◌≡◌, refl, sym, ap, ◌∙◌}
-use Prim.Native.Nat.{ℕ, zero, suc, ◌+◌, ◌-◌, ◌/◌, ◌%◌, ◌≤◌, ◌<◌}
+use Prim.Native.Nat.{ℕ, zero, suc, ◌+◌, ◌-◌, ◌/◌, ◌%◌, ◌*◌, ◌^◌, ◌≤◌, ◌<◌}
 use native.Mathlib.Nat.{eq-or-lt_of_le, le_of_suc-le-suc}
 use native.Mathlib.Decide.{ℕ_discrete}
 use native.Mathlib.Omega.{arith}
@@ -11,13 +11,13 @@ use borrow.Author.Tests.{ne_eqb}
 use lib.Dec.{eqb}
 use lib.ListN.{length, set}
 use Rattle.util.specs.Word.{change}
-use Rattle.store.specs.Layout.{top, layer_start, cap}
+use Rattle.store.specs.Layout.{top, layer_start, cap, start_from, StoreOf}
 use Rattle.store.specs.Word.{word, anc, put}
 use Rattle.store.proofs.Geometry.{store_kept}
 use Rattle.store.proofs.TopLayer.{top_high}
 use Rattle.store.proofs.Words.{word-put-same}
 use Rattle.set_member.specs.Place.{Placed}
-use Rattle.set_member.proofs.Spots.{spot}
+use Rattle.set_member.proofs.Spots.{spot, ranged}
 use Rattle.set_edit.specs.Edit.{edit, edits, word_left, climb, reach}
 use Rattle.set_edit.specs.Steps.{Edited, Begun, Climbing, Ended}
 use Rattle.set_edit.proofs.Edits.{length-edits, cap-edits, word-edits-same}
@@ -42,6 +42,10 @@ kept_none {n} (inr h) e = absurd (h (asked_off n e))
 -- a layer number is a small number
 pub layer_lt : {s : List ℕ} {N i k : ℕ} → Placed s N i k → k < 4
 layer_lt {N = N} p = omega (arith, p.layer, top_high N)
+
+-- the word over an id lies in the store, at the code's numbers
+pub word_inside : {s : List ℕ} {N i k : ℕ} → StoreOf N s → i < N → k ≤ top N → start_from (length s) N k + i / 2 ^ (6 * (k + 1)) < length s
+word_inside z h l = (ranged (record { store = z; below = h; layer = l }) _ _ refl refl).inside
 
 -- what the code writes over an id in layer k: a is where the layer starts, q the word in it, b the id's place
 module _ {s : List ℕ} {N i k : ℕ} (p : Placed s N i k) {a q : ℕ} (a_is : a ≡ layer_start N k) (q-is : q ≡ anc i k / 64) where

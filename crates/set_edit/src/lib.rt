@@ -31,20 +31,22 @@ fn set_id_word(store: &mut [u64], a: usize, id: u32, w: u64)
 }
 
 // The bit over an id set, or cleared, in layer k; answers the word that it leaves.
+#[tactic(auto, using(store::proofs::TopLayer::top_high, store::proofs::Inside::start_inside, crate::proofs::Steps::word_inside))]
 fn edit(store: &mut [u64], n: usize, id: u32, k: usize, on: bool) -> u64
     requires { Placed store.old n id k }
     ensures { Edited on store.old n id k store.new result }
 {
     let a = store::start(store.len(), n, k);
+    let layer = &mut store[a..];
     let q = util::offset(id, 6 * (k + 1));
-    let b = util::offset(id, 6 * k);
-    let w = util::with_bit(store[a + q], b, on);
-    set_word(&mut store[a..], q, w);
+    let w = util::with_bit(layer[q], util::offset(id, 6 * k), on);
+    set_word(layer, q, w);
     w
 }
 
 // The bit over an id set, or cleared, in the layers above 0, where layer 0 has it so; answers how many layers have it so now. It is set in
 // every layer, and cleared as far as words become 0.
+#[tactic(auto, using(store::proofs::TopLayer::top_high))]
 fn above<const ON: bool>(store: &mut [u64], n: usize, id: u32) -> usize
     requires { (s : List ℕ) × Climbing ON s n id 1 store.old }
     ensures { (s : List ℕ) → Climbing ON s n id 1 store.old → Ended ON s n id (reach ON n s id) store.new result }

@@ -85,6 +85,7 @@ fn search(layer: &[u64], n: usize, first: usize) -> Option<u32>
 }
 
 // The lowest id from 1 on and below the capacity that is not a member.
+#[tactic(auto, using(store::proofs::Inside::tested_start))]
 pub fn first_free(store: &[u64]) -> Result<u32, Refusal>
     ensures { Settled number_paper (first_free_of store.now) result tt }
 {

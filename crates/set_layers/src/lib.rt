@@ -30,6 +30,7 @@ fn places_over(id: u32) -> [usize; 2]
 }
 
 // Layer k of a store of capacity n, as the caller's own part of it.
+#[tactic(auto, using(store::proofs::Inside::start_to_end, store::proofs::Inside::end_inside))]
 fn part(store: &[u64], n: usize, k: usize) -> &[u64]
     requires { (StoreOf n store.now) × (k ≤ top n) }
     ensures { OwnPart store.entry result k }

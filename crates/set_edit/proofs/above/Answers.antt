@@ -1,15 +1,8 @@
 use mathlib.Core.Path.{ap}
 use native.Mathlib.Numerals.{add-one}
 use native.Mathlib.Omega.{arith}
-use Rattle.store.proofs.TopLayer.{top_high}
 use Rattle.set_edit.proofs.Steps.{asked, kept_none, placed, climb-more, climb_ends, reached}
 use Rattle.set_edit.proofs.above.Goals as goal
-
-pub overflow_add-layers : goal.overflow_add-layers
-overflow_add-layers g c = omega (arith, top_high c.args.n)
-
-pub loop-k-init : goal.loop-k-init
-loop-k-init g c = λ s x. x
 
 pub edit-w-requires : goal.edit-w-requires
 edit-w-requires g c = let p = c.requires in placed _ (c.loop-k.invariant p.0 p.1).begun (omega arith)
