@@ -6,11 +6,12 @@ use Prim.Native.Nat.{ℕ, ◌≤◌}
 use borrow.Author.Tests.{eqb-true}
 use lib.Dec.{eqb}
 use lib.ListN.{length, replicate}
+use Rattle.std.specs.Prelude.{Result}
+use Rattle.store.specs.declared.Refusal.{Refusal}
 use Rattle.util.specs.Outcome.{Outcome}
 use Rattle.store.specs.Answer.{does, refuses, refusal_number, value_of}
 use Rattle.store.specs.Layout.{max_cap, store_len, cap}
 use Rattle.store.specs.Word.{SoundStore}
-use Rattle.store.specs.declared.Did.{Did}
 use Rattle.store.proofs.Ends.{cap_in_lem}
 use Rattle.set_whole.specs.Calls.{open_refusal, open_of}
 use Rattle.set_whole.proofs.Answers.{can_open_lem}
@@ -42,7 +43,7 @@ module _ {P : ℕ → List ℕ → Type 0} (k : Inherited P) where
   one_left : {N : ℕ} {s u y : List ℕ} → y ≡ u → P N s → OneCall N s u → P N y × Unit {0}
   one_left {N} e p c = (subst (P N) (sym e) (k.handed_on p c), tt)
 
-  merge_left : {N M op : ℕ} {s t u : List ℕ} {r : Did} → Assigned op s t r u → P N s → P M t → P N u × Unit {0}
+  merge_left : {N M op : ℕ} {s t u : List ℕ} {r : Result (Unit {0}) Refusal} → Assigned op s t r u → P N s → P M t → P N u × Unit {0}
   merge_left v p q = (k.handed_on p (merges (k.is_sound q) _ v), tt)
 
   -- an opening that goes through leaves a new store

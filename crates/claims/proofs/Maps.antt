@@ -8,16 +8,15 @@ use borrow.Author.Tests.{leb-true}
 use lib.Dec.{leb}
 use lib.ListN.{length, get_or, take}
 use lib.Seq.{sets}
+use Rattle.std.specs.Prelude.{Result, Ok}
+use Rattle.store.specs.declared.Refusal.{Refusal}
 use Rattle.util.specs.Outcome.{Outcome, Settled}
 use Rattle.store.specs.Answer.{did_paper, gives, does, refuses}
 use Rattle.store.specs.Build.{build}
 use Rattle.store.specs.Word.{members, SoundStore}
-use Rattle.store.specs.declared.Did.{Did}
 use Rattle.store.proofs.Geometry.{is_store_lem}
-use Rattle.map_write.specs.Answer.{wrote_paper}
 use Rattle.map_write.specs.Calls.{write_of}
 use Rattle.map_write.specs.Map.{told_words, map_of, map_len}
-use Rattle.map_write.specs.declared.Wrote.TheVariants.{Length}
 use Rattle.map_read.specs.Calls.{read_of}
 use Rattle.map_laws.proofs.Theorems.{written-length, written_read, written-read_part, round_trip_members, round_trip_same}
 use Rattle.claims.specs.Again.{Again}
@@ -37,12 +36,12 @@ had_room {N} {s} f b v = rw (is_store_lem f.is, f.is.names) (go (leb (map_len (t
     go true e z = leb-true (map_len (told_words N s)) (length b) e
     go false e z = absurd (omega (arith, ap (λ (l : List ℕ). get_or l 0 0) z))
 
-module _ {N : ℕ} {s t : List ℕ} (from : Reached N s) (into : Reached N t) (b m : List ℕ) (v : ℕ) (w : Settled wrote_paper (write_of s b) (Length v) m) where
+module _ {N : ℕ} {s t : List ℕ} (from : Reached N s) (into : Reached N t) (b m : List ℕ) (v : ℕ) (w : Settled number_paper (write_of s b) (Ok v) m) where
   room : map_len (told_words N s) ≤ length b
   room = had_room (reached_fine from) b v (sym w.answer)
 
   -- what the reader leaves of bytes that give the store of the written words
-  left : (x : List ℕ) (r : Did) (u : List ℕ) → read_of x t ≡ does (build N (told_words N s)) → Settled did_paper (read_of x t) r u → Again N s r u
+  left : (x : List ℕ) (r : Result (Unit {0}) Refusal) (u : List ℕ) → read_of x t ≡ does (build N (told_words N s)) → Settled did_paper (read_of x t) r u → Again N s r u
   left x r u e z =
       let f = reached_fine from in
       let g = reached_fine into in
@@ -55,11 +54,11 @@ module _ {N : ℕ} {s t : List ℕ} (from : Reached N s) (into : Reached N t) (b
       }
 
   -- the whole buffer read
-  pub read_again : (r : Did) (u : List ℕ) → Settled did_paper (read_of m t) r u → Again N s r u
+  pub read_again : (r : Result (Unit {0}) Refusal) (u : List ℕ) → Settled did_paper (read_of m t) r u → Again N s r u
   read_again r u = left m r u (ap (λ (x : List ℕ). read_of x t) w.memory ∙ written_read (reached_fine from).is (reached_fine into).is b room)
 
   -- or the part of it whose length the writer answered
-  pub read_part_again : (r : Did) (u : List ℕ) → Settled did_paper (read_of (take v m) t) r u → Again N s r u
+  pub read_part_again : (r : Result (Unit {0}) Refusal) (u : List ℕ) → Settled did_paper (read_of (take v m) t) r u → Again N s r u
   read_part_again r u =
       let f = reached_fine from in
       let g = reached_fine into in

@@ -8,14 +8,11 @@ use native.Mathlib.Decide.{dec_lt}
 use native.Mathlib.Omega.{arith}
 use lib.Dec.{leb, ltb, eqb}
 use lib.ListN.{length, get_or}
+use Rattle.std.specs.Prelude.{Result}
+use Rattle.store.specs.declared.Refusal.{Refusal}
 use Rattle.util.proofs.Same.{both}
-use Rattle.store.specs.Answer.{asked_paper, did_paper, found_paper, read_paper, refusal_number}
+use Rattle.store.specs.Answer.{asked_paper, did_paper, number_paper, numbered, numbered_number, refusal_number, refused as refused_by}
 use Rattle.store.specs.Layout.{top, is_cap, store_len, cap, is_store}
-use Rattle.store.specs.declared.Asked.TheVariants.{Refused as AskedRefused}
-use Rattle.store.specs.declared.Did.{Did}
-use Rattle.store.specs.declared.Did.TheVariants.{Refused as DidRefused}
-use Rattle.store.specs.declared.Found.TheVariants.{Refused as FoundRefused}
-use Rattle.store.specs.declared.Read.TheVariants.{Refused as ReadRefused}
 use Rattle.set_member.specs.Calls.{contains_of}
 use Rattle.set_edit.specs.Calls.{move_of, add_of, remove_of, all_below, add_list_of}
 use Rattle.set_whole.specs.Calls.{open_refusal, open_of, clear_of, is_empty_of, equal_of}
@@ -41,18 +38,14 @@ use Rattle.formula_ask.specs.Calls.{cap_of, layer_word_of, formula_contains_of, 
 use Rattle.formula_walk.specs.Calls.{refusal_in, formula_start_in, formula_next_in}
 use Rattle.formula_fill.specs.Calls.{formula_fill_in}
 use Rattle.ops_merge.specs.Calls.{mergeable, assign_of, Assigned}
-use Rattle.map_write.specs.Answer.{wrote_paper}
 use Rattle.map_write.specs.Calls.{map_length_of, write_of}
 use Rattle.map_write.specs.Map.{told_words, map_len}
-use Rattle.map_write.specs.declared.Wrote.TheVariants.{Refused as WroteRefused}
-use Rattle.map_read.specs.Answer.{map_for_paper}
 use Rattle.map_read.specs.Calls.{map_capacity_of, read_of}
-use Rattle.map_read.specs.declared.MapFor.TheVariants.{Refused as MapForRefused}
 use Rattle.map_read.specs.Judge.{cap_in, count_in, used_in, table_in, head_ok, good, total, judge_of}
 use Rattle.directory.specs.Calls.{Directory, owner_at, is_item, room_refusal, item_refusal, return_refusal, directory_open_of, give_of, take_back_of}
 use Rattle.claims.specs.Calls.{Answered, Memory, Meets, refusal, Refuses, Refused, Call, promise_of, part_paper, layer_part_of, no_batch, told_paper, told_refused, told_of, moved_to}
 use Rattle.claims.specs.Calls.Call.{«open», add, remove, contains, add_list, is_empty, clear, contains_set, equal, get_from_layer, layer_as_slice, average_ones, first_free, is_sound, rebuild, bitor_assign, bitand_assign, bitxor_assign, start, next, fill, contains_f, is_empty_f, get_from_layer_f, start_f, next_f, fill_f, write, read, map_length, map_capacity, open_directory, give, take_back, iter_r, next_r, first_r}
-use Rattle.claims.proofs.Stays.{by_cond, is_known, Stays, goes, no_goes, choose, refuses_so}
+use Rattle.claims.proofs.Stays.{by_cond, is_known, number_known, Stays, goes, no_goes, choose, refuses_so}
 
 -- 0, or a number of the table
 abbrev Known : ℕ → Type 0
@@ -64,43 +57,43 @@ open_known : (n len : ℕ) → Known (open_refusal n len)
 unfolding open_refusal
 open_known n len = by_cond Known (is_cap n) (by_cond Known (eqb len (store_len n)) refl refl) refl
 
-open_stays : (s : List ℕ) (n : ℕ) → Stays did_paper DidRefused s (open_of s n)
+open_stays : (s : List ℕ) (n : ℕ) → Stays did_paper refused_by s (open_of s n)
 unfolding open_of
 open_stays s n = choose (eqb (open_refusal n (length s)) 0) (goes refl) (no_goes _ (open_known n (length s)) refl)
 
-add_stays : (s : List ℕ) (i : ℕ) → Stays asked_paper AskedRefused s (add_of s i)
+add_stays : (s : List ℕ) (i : ℕ) → Stays asked_paper refused_by s (add_of s i)
 unfolding move_of
 add_stays s i = choose (is_store s) (choose (ltb i (cap s)) (goes refl) (no_goes 3 refl refl)) (no_goes 2 refl refl)
 
-remove_stays : (s : List ℕ) (i : ℕ) → Stays asked_paper AskedRefused s (remove_of s i)
+remove_stays : (s : List ℕ) (i : ℕ) → Stays asked_paper refused_by s (remove_of s i)
 unfolding move_of
 remove_stays s i = choose (is_store s) (choose (ltb i (cap s)) (goes refl) (goes refl)) (no_goes 2 refl refl)
 
-contains_stays : (s : List ℕ) (i : ℕ) → Stays asked_paper AskedRefused tt (contains_of s i)
+contains_stays : (s : List ℕ) (i : ℕ) → Stays asked_paper refused_by tt (contains_of s i)
 unfolding contains_of
 contains_stays s i = choose (is_store s) (goes refl) (no_goes 2 refl refl)
 
-list_stays : (s ids : List ℕ) → Stays did_paper DidRefused s (add_list_of s ids)
+list_stays : (s ids : List ℕ) → Stays did_paper refused_by s (add_list_of s ids)
 unfolding add_list_of
 list_stays s ids = choose (is_store s) (choose (all_below (cap s) ids) (goes refl) (no_goes 3 refl refl)) (no_goes 2 refl refl)
 
-empty-stays : (s : List ℕ) → Stays asked_paper AskedRefused tt (is_empty_of s)
+empty-stays : (s : List ℕ) → Stays asked_paper refused_by tt (is_empty_of s)
 unfolding is_empty_of
 empty-stays s = choose (is_store s) (goes refl) (no_goes 2 refl refl)
 
-clear_stays : (s : List ℕ) → Stays did_paper DidRefused s (clear_of s)
+clear_stays : (s : List ℕ) → Stays did_paper refused_by s (clear_of s)
 unfolding clear_of
 clear_stays s = choose (is_store s) (goes refl) (no_goes 2 refl refl)
 
-set-stays : (s t : List ℕ) → Stays asked_paper AskedRefused tt (contains_set_of s t)
+set-stays : (s t : List ℕ) → Stays asked_paper refused_by tt (contains_set_of s t)
 unfolding contains_set_of
 set-stays s t = choose (is_store s && is_store t) (choose (eqb (cap s) (cap t)) (goes refl) (no_goes 5 refl refl)) (no_goes 2 refl refl)
 
-equal_stays : (s t : List ℕ) → Stays asked_paper AskedRefused tt (equal_of s t)
+equal_stays : (s t : List ℕ) → Stays asked_paper refused_by tt (equal_of s t)
 unfolding equal_of
 equal_stays s t = choose (is_store s && is_store t) (choose (eqb (cap s) (cap t)) (goes refl) (no_goes 5 refl refl)) (no_goes 2 refl refl)
 
-word-stays : (s : List ℕ) (k i : ℕ) → Stays read_paper ReadRefused tt (word_of s k i)
+word-stays : (s : List ℕ) (k i : ℕ) → Stays number_paper refused_by tt (word_of s k i)
 unfolding word_of
 word-stays s k i = choose (is_store s) (choose (leb k (top (cap s))) (goes refl) (no_goes 4 refl refl)) (no_goes 2 refl refl)
 
@@ -111,25 +104,25 @@ part_stays s k = go (layer_part s k)
     go [] = record { known = refl; numbers = λ n. refl; lent = λ n. refl }
     go (w ∷ l) = goes refl
 
-free_stays : (s : List ℕ) → Stays found_paper FoundRefused tt (first_free_of s)
+free_stays : (s : List ℕ) → Stays number_paper refused_by tt (first_free_of s)
 unfolding first_free_of
 free_stays s = choose (is_store s) (go (free_from (cap s) s search_start)) (no_goes 2 refl refl)
   where
-    go : (l : List ℕ) → Stays found_paper FoundRefused tt (first_of l)
+    go : (l : List ℕ) → Stays number_paper refused_by tt (first_of l)
     go [] = no_goes 12 refl refl
     go (i ∷ l) = goes refl
 
-sound_stays : (s : List ℕ) → Stays asked_paper AskedRefused tt (is_sound_of s)
+sound_stays : (s : List ℕ) → Stays asked_paper refused_by tt (is_sound_of s)
 unfolding is_sound_of
 sound_stays s = choose (is_store s) (goes refl) (no_goes 2 refl refl)
 
-rebuild_stays : (s : List ℕ) → Stays did_paper DidRefused s (rebuild_of s)
+rebuild_stays : (s : List ℕ) → Stays did_paper refused_by s (rebuild_of s)
 unfolding rebuild_of
 rebuild_stays s = choose (is_store s) (goes refl) (no_goes 2 refl refl)
 
 -- ---- in place: a refusal is none of two stores of equal capacity, and then all is settled
 
-assign_stays : (op : ℕ) (s t : List ℕ) → Stays did_paper DidRefused s (assign_of op s t)
+assign_stays : (op : ℕ) (s t : List ℕ) → Stays did_paper refused_by s (assign_of op s t)
 unfolding assign_of
 assign_stays op s t = choose (is_store s && is_store t) (choose (eqb (cap s) (cap t)) (goes refl) (no_goes 5 refl refl)) (no_goes 2 refl refl)
 
@@ -137,8 +130,8 @@ pair_goes : (op : ℕ) (s t : List ℕ) → mergeable s t ≡ true → refusal_n
 unfolding mergeable assign_of
 pair_goes op s t h = let b = both (is_store s && is_store t) (eqb (cap s) (cap t)) h in rw (b.0, b.1)
 
-assign_refuses : (op : ℕ) (s t : List ℕ) {r : Did} {y : List ℕ} → Assigned op s t r y → get_or (did_paper.numbers r) 0 0 ≢ 0
-    → Refuses DidRefused s (get_or (did_paper.numbers r) 0 0) r y
+assign_refuses : (op : ℕ) (s t : List ℕ) {r : Result (Unit {0}) Refusal} {y : List ℕ} → Assigned op s t r y → get_or (did_paper.numbers r) 0 0 ≢ 0
+    → Refuses refused_by s (get_or (did_paper.numbers r) 0 0) r y
 assign_refuses op s t v n =
     let e = ap (λ (l : List ℕ). get_or l 0 0) v.answer in
     refuses_so (assign_stays op s t) (v.whole (λ h. absurd (n (e ∙ pair_goes op s t h)))) n
@@ -182,14 +175,22 @@ module _ (c : Cursor) where
   StepStays a = Stays step_paper (λ n. refused n c) tt (written a)
 
   no_step : (n : ℕ) → is_known n ≡ true → StepStays (refused n c)
-  no_step n h = record { known = h; numbers = λ z. refl; lent = λ z. refl }
+  no_step n h = record {
+    known = number_known (numbered n);
+    numbers = λ z. ap (λ (e : Refusal). step_paper.numbers (record { cursor = c; reads = 0; answer = NextRefused e })) (sym (numbered_number (numbered n)));
+    lent = λ z. refl;
+  }
 
   module _ (out : List ℕ) where
     abbrev FillStays : Filled → Type 0
     FillStays f = Stays batch_paper (no_batch c) out (filled f out)
 
-    no_fill : (n : ℕ) → is_known n ≡ true → FillStays (stopped (StopRefused n) 0 c)
-    no_fill n h = record { known = h; numbers = λ z. refl; lent = λ z. refl }
+    no_fill : (n : ℕ) → is_known n ≡ true → FillStays (stopped (StopRefused (numbered n)) 0 c)
+    no_fill n h = record {
+      known = number_known (numbered n);
+      numbers = λ z. ap (λ (e : Refusal). batch_paper.numbers (batch (stopped (StopRefused e) 0 c))) (sym (numbered_number (numbered n)));
+      lent = λ z. refl;
+    }
 
 start_stays : (s : List ℕ) (c : Cursor) → StepStays c (start_in s c)
 unfolding start_in
@@ -250,15 +251,15 @@ unfolding refusal_in
 refusal_known ss cs c = by_cond Known (eqb (check_of ss cs) 0) (by_cond Known (fits (top (cap_of ss)) c) refl refl) (check_known ss cs)
 
 module _ (ss : List (List ℕ)) (cs : List ℕ) where
-  contains_f_stays : (i : ℕ) → Stays asked_paper AskedRefused tt (formula_contains_of ss cs i)
+  contains_f_stays : (i : ℕ) → Stays asked_paper refused_by tt (formula_contains_of ss cs i)
   unfolding formula_contains_of
   contains_f_stays i = choose (eqb (check_of ss cs) 0) (goes refl) (no_goes _ (check_known ss cs) refl)
 
-  empty_f_stays : Stays asked_paper AskedRefused tt (formula_is_empty_of ss cs)
+  empty_f_stays : Stays asked_paper refused_by tt (formula_is_empty_of ss cs)
   unfolding formula_is_empty_of
   empty_f_stays = choose (eqb (check_of ss cs) 0) (goes refl) (no_goes _ (check_known ss cs) refl)
 
-  word_f_stays : (k i : ℕ) → Stays read_paper ReadRefused tt (layer_word_of ss cs k i)
+  word_f_stays : (k i : ℕ) → Stays number_paper refused_by tt (layer_word_of ss cs k i)
   unfolding layer_word_of
   word_f_stays k i =
       choose (eqb (stores_of ss) 0) (choose (leb k (top (cap_of ss))) (choose (is_formula ss cs) (goes refl) (no_goes 6 refl refl)) (no_goes 4 refl refl)) (no_goes _ (stores_known ss) refl)
@@ -277,7 +278,7 @@ module _ (ss : List (List ℕ)) (cs : List ℕ) where
 
 -- ---- maps
 
-write_stays : (s m : List ℕ) → Stays wrote_paper WroteRefused m (write_of s m)
+write_stays : (s m : List ℕ) → Stays number_paper refused_by m (write_of s m)
 unfolding write_of
 write_stays s m = choose (is_store s) (choose (leb (map_len (told_words (cap s) s)) (length m)) (goes refl) (no_goes 8 refl refl)) (no_goes 2 refl refl)
 
@@ -290,15 +291,15 @@ judge_known m N =
     refl)
     refl
 
-length-stays : (s : List ℕ) → Stays wrote_paper WroteRefused tt (map_length_of s)
+length-stays : (s : List ℕ) → Stays number_paper refused_by tt (map_length_of s)
 unfolding map_length_of
 length-stays s = choose (is_store s) (goes refl) (no_goes 2 refl refl)
 
-capacity_stays : (m : List ℕ) → Stays map_for_paper MapForRefused tt (map_capacity_of m)
+capacity_stays : (m : List ℕ) → Stays number_paper refused_by tt (map_capacity_of m)
 unfolding map_capacity_of
 capacity_stays m = choose (head_ok m) (goes refl) (no_goes 9 refl refl)
 
-read_stays : (m s : List ℕ) → Stays did_paper DidRefused s (read_of m s)
+read_stays : (m s : List ℕ) → Stays did_paper refused_by s (read_of m s)
 unfolding read_of
 read_stays m s = choose (is_store s) (choose (eqb (judge_of m (cap s)) 0) (goes refl) (no_goes _ (judge_known m (cap s)) refl)) (no_goes 2 refl refl)
 
@@ -317,19 +318,19 @@ owner_known : (d : Directory) (x c : ℕ) → Known (return_refusal d x c)
 unfolding return_refusal
 owner_known d x c = by_cond Known (eqb (item_refusal d x) 0) (by_cond Known (ltb c (cap d.store) && eqb (owner_at d c) x) refl refl) (item_known d x)
 
-directory-stays : (d : Directory) (n : ℕ) → Stays did_paper DidRefused d (directory_open_of d n)
+directory-stays : (d : Directory) (n : ℕ) → Stays did_paper refused_by d (directory_open_of d n)
 unfolding directory_open_of
 directory-stays d n =
     let r = room_refusal (length d.store) (length d.owners) n in
     choose (eqb r 0) (goes refl) (no_goes r (room_known (length d.store) (length d.owners) n) refl)
 
-give_stays : (d : Directory) (x : ℕ) → Stays found_paper FoundRefused d (give_of d x)
+give_stays : (d : Directory) (x : ℕ) → Stays number_paper refused_by d (give_of d x)
 unfolding give_of
 give_stays d x =
     let f = refusal_number (first_free_of d.store) in
     choose (eqb (item_refusal d x) 0) (choose (eqb f 0) (goes refl) (no_goes f (free_stays d.store).known refl)) (no_goes (item_refusal d x) (item_known d x) refl)
 
-take-stays : (d : Directory) (x c : ℕ) → Stays did_paper DidRefused d (take_back_of d x c)
+take-stays : (d : Directory) (x c : ℕ) → Stays did_paper refused_by d (take_back_of d x c)
 unfolding take_back_of
 take-stays d x c = choose (eqb (return_refusal d x c) 0) (goes refl) (no_goes (return_refusal d x c) (owner_known d x c) refl)
 

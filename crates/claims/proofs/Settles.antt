@@ -7,11 +7,11 @@ use Prim.Native.Nat.{ℕ}
 use lib.Dec.{eqb}
 use lib.ListN.{length}
 use denote.Ref.{Bor}
+use Rattle.std.specs.Prelude.{Ok}
 use Rattle.util.specs.Outcome.{settles}
 use Rattle.util.proofs.Same.{both}
 use Rattle.store.specs.Layout.{cap, is_store}
 use Rattle.store.specs.Word.{Sound}
-use Rattle.store.specs.declared.Did.TheVariants.{Done}
 use Rattle.store.proofs.Members.{own}
 use Rattle.set_layers.specs.Calls.{layer_part}
 use Rattle.walk.specs.Calls.{next_in}
@@ -65,7 +65,7 @@ reached_whole r q op h = ((own (reached_fine r)).sound, (own (reached_fine q)).s
 
 -- and no more is fixed than that: two stores of equal capacity that are not both sound may become any list with that length and word 0
 pub exception_open : (op : ℕ) (s t u : List ℕ) → mergeable s t ≡ true → (((Sound (cap s) s) × (Sound (cap t) t)) → ⊥) → length u ≡ length s → cap u ≡ cap s
-    → Meets (merges op s t) Done u
+    → Meets (merges op s t) (Ok tt) u
 unfolding mergeable assign_of
 exception_open op s t u h n l c =
     let b = both (is_store s && is_store t) (eqb (cap s) (cap t)) h in

@@ -1,14 +1,21 @@
 -- One outcome that may be a refusal: what it is to refuse so, and what follows for the answer and the memory that meet it.
-use mathlib.Core.Bool.{Bool, true, false, cond, ◌||◌, true≢false}
+use mathlib.Core.Bool.{Bool, true, false, cond, ◌||◌, ◌&&◌, true≢false}
 use mathlib.Core.List.{List, [], ◌∷◌}
 use mathlib.Core.Logic.{◌≢◌}
 use mathlib.Core.Path.{◌≡◌, refl, sym, ap, ◌∙◌, subst}
-use Prim.Native.Nat.{ℕ}
+use Prim.Native.Nat.{ℕ, ◌≤◌}
 use borrow.Author.Tests.{ne_eqb}
-use lib.Dec.{eqb}
+use native.Mathlib.Omega.{arith}
+use lib.Dec.{eqb, leb}
+use Rattle.std.proofs.lemmas.Bool.{eqb-true}
+use borrow.Author.Tests.{leb-true}
+use Rattle.util.proofs.Same.{both}
 use lib.ListN.{get_or}
 use Rattle.util.specs.Outcome.{Outcome, Paper, Settled}
-use Rattle.store.specs.Answer.{refuses, refusal_number}
+use Rattle.store.specs.Answer.{number, numbered, refuses, refusal_number}
+use Rattle.store.specs.declared.Refusal.{Refusal}
+use Rattle.store.specs.declared.Refusal.TheVariants.{Capacity, NoStore, Id, Layer, Capacities, Formula, Cursor, Buffer, Header, Entry, Members, Full, Owners, Item, Owner}
+use Rattle.store.proofs.Exits.{number_numbered}
 use Rattle.claims.specs.Calls.{refusal_numbers, is_among, Refuses}
 
 -- what holds of both cases holds of the one chosen
@@ -20,12 +27,35 @@ by_cond P false p q = q
 abbrev pub is_known : ℕ → Bool
 is_known = is_among (0 ∷ refusal_numbers)
 
+-- as every refusal's number is
+pub number_known : (e : Refusal) → is_known (number e) ≡ true
+number_known = elim [ Capacity ↦ refl | NoStore ↦ refl | Id ↦ refl | Layer ↦ refl | Capacities ↦ refl | Formula ↦ refl | Cursor ↦ refl | Buffer ↦ refl | Header ↦ refl | Entry ↦ refl | Members ↦ refl | Full ↦ refl | Owners ↦ refl | Item ↦ refl | Owner ↦ refl ]
+
 not_zero : (n : ℕ) → n ≢ 0 → is_known n ≡ true → is_among refusal_numbers n ≡ true
 not_zero n h e = go (eqb n 0) (ne_eqb n 0 h) e
   where
     go : (x : Bool) → x ≡ false → (x || is_among refusal_numbers n) ≡ true → is_among refusal_numbers n ≡ true
     go true f e = absurd (true≢false f)
     go false f e = e
+
+-- the numbers of the table are at most 15
+at_most : ℕ → List ℕ → Bool
+at_most k [] = true
+at_most k (m ∷ l) = leb m k && at_most k l
+
+among_at_most : (k n : ℕ) (l : List ℕ) → at_most k l ≡ true → is_among l n ≡ true → n ≤ k
+among_at_most k n [] h e = absurd (true≢false (sym e))
+among_at_most k n (m ∷ l) h e = go (eqb n m) refl e
+  where
+    b : (leb m k ≡ true) × (at_most k l ≡ true)
+    b = both (leb m k) (at_most k l) h
+    go : (x : Bool) → eqb n m ≡ x → (x || is_among l n) ≡ true → n ≤ k
+    go true p z = let q : n ≡ m = eqb-true n m p in omega (arith, q, leb-true m k b.0)
+    go false p z = among_at_most k n l b.1 z
+
+-- a number of the table is that of its refusal
+said : (n : ℕ) → is_known n ≡ true → n ≢ 0 → number (numbered n) ∷ [] ≡ n ∷ []
+said n h z = ap (λ (m : ℕ). m ∷ []) (number_numbered n (omega (arith, z)) (among_at_most 15 n (0 ∷ refusal_numbers) refl h))
 
 -- where its first number is not 0, the outcome is a refusal
 pub record Stays {R X : Type 0} (p : Paper R) (f : ℕ → R) (x : X) (o : Outcome X) : Type 0 where
@@ -37,8 +67,9 @@ module _ {R X : Type 0} {p : Paper R} {f : ℕ → R} {x : X} where
   pub goes : {o : Outcome X} → refusal_number o ≡ 0 → Stays p f x o
   goes e = record { known = rw e; numbers = λ n. absurd (n e); lent = λ n. absurd (n e) }
 
-  pub no_goes : (n : ℕ) → is_known n ≡ true → p.numbers (f n) ≡ n ∷ [] → Stays p f x (refuses n x)
-  no_goes n h e = record { known = h; numbers = λ z. sym e; lent = λ z. refl }
+  -- the answer of a number has the number of its refusal, which is that number
+  pub no_goes : (n : ℕ) → is_known n ≡ true → p.numbers (f n) ≡ number (numbered n) ∷ [] → Stays p f x (refuses n x)
+  no_goes n h e = record { known = h; numbers = λ z. sym (e ∙ said n h z); lent = λ z. refl }
 
   pub choose : (b : Bool) {o o' : Outcome X} → Stays p f x o → Stays p f x o' → Stays p f x (cond b o o')
   choose = by_cond (Stays p f x)

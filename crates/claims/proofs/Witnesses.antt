@@ -9,11 +9,11 @@ use native.Mathlib.Omega.{arith}
 use borrow.Author.Tests.{eq-eqb, ne_eqb, lt-ltb}
 use lib.Dec.{ltb}
 use lib.ListN.{length, replicate, length-replicate}
+use Rattle.std.specs.Prelude.{Ok}
 use Rattle.util.specs.Outcome.{Outcome}
 use Rattle.store.specs.Build.{empty}
 use Rattle.store.specs.Layout.{top, max_cap, cap}
 use Rattle.store.specs.Word.{SoundStore}
-use Rattle.store.specs.declared.Did.TheVariants.{Done}
 use Rattle.store.proofs.Build.{fine_empty}
 use Rattle.store.proofs.Geometry.{after-header, is_store_lem}
 use Rattle.store.proofs.Members.{own}
@@ -137,10 +137,10 @@ map_of_some {s = s} f later = record { set = s; fine = f; later = later; bytes =
 
 -- a map written into any buffer with room, and read into any reached store
 pub again_some : {N : ℕ} {s t : List ℕ} → Reached N s → Reached N t → (b : List ℕ) → map_len (told_words N s) ≤ length b
-    → Again N s Done (read_of (write_of s b).lent t).lent
+    → Again N s (Ok tt) (read_of (write_of s b).lent t).lent
 again_some {N} {s} {t} from into b h =
     let f = (reached_fine from).is in
     let g = (reached_fine into).is in
     read_again from into b (write_of s b).lent (map_len (told_words N s)) (record { answer = sym (written-length f g b h); memory = refl })
-    Done (read_of (write_of s b).lent t).lent
+    (Ok tt) (read_of (write_of s b).lent t).lent
     (record { answer = sym (ap (λ (o : Outcome (List ℕ)). o.numbers) (written_read f g b h)); memory = refl })

@@ -1,16 +1,12 @@
 -- Every public call of documents 01 and 02 with its arguments, and what its contract promises: one list, for what is said of all of them.
-use Rattle.std.specs.Prelude.{Bool, true, false, ◌||◌, List, [], ◌∷◌, ◌≡◌, refl, ℕ, eqb, length, get_or}
+use Rattle.std.specs.Prelude.{Result, Bool, true, false, ◌||◌, List, [], ◌∷◌, ◌≡◌, refl, ℕ, eqb, length, get_or}
 use Rattle.std.proofs.Common.{ap}
 use Rattle.std.specs.Borrow.{Bor}
 use Rattle.util.specs.Outcome.{Outcome, Paper, Settled}
 use Rattle.average.specs.Average.{average_of, paper as half_paper}
-use Rattle.store.specs.Answer.{asked_paper, did_paper, found_paper, read_paper}
+use Rattle.store.specs.Answer.{asked_paper, did_paper, number_paper, numbered, refused as refused_by}
 use Rattle.store.specs.Layout.{top_most, cap}
-use Rattle.store.specs.declared.Asked.TheVariants.{Refused as AskedRefused}
-use Rattle.store.specs.declared.Did.{Did}
-use Rattle.store.specs.declared.Did.TheVariants.{Refused as DidRefused}
-use Rattle.store.specs.declared.Found.TheVariants.{Refused as FoundRefused}
-use Rattle.store.specs.declared.Read.TheVariants.{Refused as ReadRefused}
+use Rattle.store.specs.declared.Refusal.{Refusal}
 use Rattle.set_member.specs.Calls.{contains_of}
 use Rattle.set_edit.specs.Calls.{add_of, remove_of, add_list_of}
 use Rattle.set_whole.specs.Calls.{open_of, clear_of, is_empty_of, equal_of}
@@ -33,12 +29,8 @@ use Rattle.formula_ask.specs.Calls.{layer_word_of, formula_contains_of, formula_
 use Rattle.formula_walk.specs.Calls.{formula_start_of, formula_next_of}
 use Rattle.formula_fill.specs.Calls.{formula_fill_of}
 use Rattle.ops_merge.specs.Calls.{BothSound, Assigned}
-use Rattle.map_write.specs.Answer.{wrote_paper}
 use Rattle.map_write.specs.Calls.{map_length_of, write_of}
-use Rattle.map_write.specs.declared.Wrote.TheVariants.{Refused as WroteRefused}
-use Rattle.map_read.specs.Answer.{map_for_paper}
 use Rattle.map_read.specs.Calls.{map_capacity_of, read_of}
-use Rattle.map_read.specs.declared.MapFor.TheVariants.{Refused as MapForRefused}
 use Rattle.directory.specs.Calls.{Directory, directory_open_of, give_of, take_back_of}
 
 -- ---- promises
@@ -55,7 +47,7 @@ pub data Promise : Type 1 where
 abbrev pub Answered : Promise → Type 0
 Answered (fixes {R = R} p f x o) = R
 Answered (tells {R = R} p o) = R
-Answered (merges op s t) = Did
+Answered (merges op s t) = Result (Unit {0}) Refusal
 Answered (makes s c) = BitIter
 
 abbrev pub Memory : Promise → Type 0
@@ -98,7 +90,7 @@ pub record Refuses {R X : Type 0} (f : ℕ → R) (x : X) (n : ℕ) (r : R) (y :
 abbrev pub Refused : (p : Promise) → Answered p → Memory p → Type 0
 Refused (fixes p f x o) r y = Refuses f x (refusal (fixes p f x o) r) r y
 Refused (tells p o) r y = ⊥
-Refused (merges op s t) r y = Refuses DidRefused s (refusal (merges op s t) r) r y
+Refused (merges op s t) r y = Refuses refused_by s (refusal (merges op s t) r) r y
 Refused (makes s c) r y = ⊥
 
 -- ---- what is settled
@@ -201,44 +193,44 @@ pub data Call : Type 0 where
 
 -- a refused batch: nothing handed out, no reads, the cursor as given
 abbrev pub no_batch : Cursor → ℕ → Batch
-no_batch c n = batch (stopped (StopRefused n) 0 c)
+no_batch c n = batch (stopped (StopRefused (numbered n)) 0 c)
 
 -- each call's promise: `ensures` of the function, with the lists that are lent
 abbrev pub promise_of : Call → Promise
-promise_of («open» s n) = fixes did_paper DidRefused s (open_of s n)
-promise_of (add s i) = fixes asked_paper AskedRefused s (add_of s i)
-promise_of (remove s i) = fixes asked_paper AskedRefused s (remove_of s i)
-promise_of (contains s i) = fixes asked_paper AskedRefused tt (contains_of s i)
-promise_of (add_list s ids) = fixes did_paper DidRefused s (add_list_of s ids)
-promise_of (is_empty s) = fixes asked_paper AskedRefused tt (is_empty_of s)
-promise_of (clear s) = fixes did_paper DidRefused s (clear_of s)
-promise_of (contains_set s t) = fixes asked_paper AskedRefused tt (contains_set_of s t)
-promise_of (equal s t) = fixes asked_paper AskedRefused tt (equal_of s t)
-promise_of (get_from_layer s k i) = fixes read_paper ReadRefused tt (word_of s k i)
+promise_of («open» s n) = fixes did_paper refused_by s (open_of s n)
+promise_of (add s i) = fixes asked_paper refused_by s (add_of s i)
+promise_of (remove s i) = fixes asked_paper refused_by s (remove_of s i)
+promise_of (contains s i) = fixes asked_paper refused_by tt (contains_of s i)
+promise_of (add_list s ids) = fixes did_paper refused_by s (add_list_of s ids)
+promise_of (is_empty s) = fixes asked_paper refused_by tt (is_empty_of s)
+promise_of (clear s) = fixes did_paper refused_by s (clear_of s)
+promise_of (contains_set s t) = fixes asked_paper refused_by tt (contains_set_of s t)
+promise_of (equal s t) = fixes asked_paper refused_by tt (equal_of s t)
+promise_of (get_from_layer s k i) = fixes number_paper refused_by tt (word_of s k i)
 promise_of (layer_as_slice s k) = fixes part_paper (λ n. []) tt (layer_part_of s k)
 promise_of (average_ones w) = tells half_paper (average_of w)
-promise_of (first_free s) = fixes found_paper FoundRefused tt (first_free_of s)
-promise_of (is_sound s) = fixes asked_paper AskedRefused tt (is_sound_of s)
-promise_of (rebuild s) = fixes did_paper DidRefused s (rebuild_of s)
+promise_of (first_free s) = fixes number_paper refused_by tt (first_free_of s)
+promise_of (is_sound s) = fixes asked_paper refused_by tt (is_sound_of s)
+promise_of (rebuild s) = fixes did_paper refused_by s (rebuild_of s)
 promise_of (bitor_assign s t) = merges 17 s t
 promise_of (bitand_assign s t) = merges 16 s t
 promise_of (bitxor_assign s t) = merges 18 s t
 promise_of (start s c) = fixes step_paper (λ n. refused n c) tt (start_of s c)
 promise_of (next s c b) = fixes step_paper (λ n. refused n c) tt (next_of s c b)
 promise_of (fill s c b out) = fixes batch_paper (no_batch c) out (fill_of s c b out)
-promise_of (contains_f ss cs i) = fixes asked_paper AskedRefused tt (formula_contains_of ss cs i)
-promise_of (is_empty_f ss cs) = fixes asked_paper AskedRefused tt (formula_is_empty_of ss cs)
-promise_of (get_from_layer_f ss cs k i) = fixes read_paper ReadRefused tt (layer_word_of ss cs k i)
+promise_of (contains_f ss cs i) = fixes asked_paper refused_by tt (formula_contains_of ss cs i)
+promise_of (is_empty_f ss cs) = fixes asked_paper refused_by tt (formula_is_empty_of ss cs)
+promise_of (get_from_layer_f ss cs k i) = fixes number_paper refused_by tt (layer_word_of ss cs k i)
 promise_of (start_f ss cs c) = fixes step_paper (λ n. refused n c) tt (formula_start_of ss cs c)
 promise_of (next_f ss cs c b) = fixes step_paper (λ n. refused n c) tt (formula_next_of ss cs c b)
 promise_of (fill_f ss cs c b out) = fixes batch_paper (no_batch c) out (formula_fill_of ss cs c b out)
-promise_of (write s m) = fixes wrote_paper WroteRefused m (write_of s m)
-promise_of (read m s) = fixes did_paper DidRefused s (read_of m s)
-promise_of (map_length s) = fixes wrote_paper WroteRefused tt (map_length_of s)
-promise_of (map_capacity m) = fixes map_for_paper MapForRefused tt (map_capacity_of m)
-promise_of (open_directory d n) = fixes did_paper DidRefused d (directory_open_of d n)
-promise_of (give d x) = fixes found_paper FoundRefused d (give_of d x)
-promise_of (take_back d x i) = fixes did_paper DidRefused d (take_back_of d x i)
+promise_of (write s m) = fixes number_paper refused_by m (write_of s m)
+promise_of (read m s) = fixes did_paper refused_by s (read_of m s)
+promise_of (map_length s) = fixes number_paper refused_by tt (map_length_of s)
+promise_of (map_capacity m) = fixes number_paper refused_by tt (map_capacity_of m)
+promise_of (open_directory d n) = fixes did_paper refused_by d (directory_open_of d n)
+promise_of (give d x) = fixes number_paper refused_by d (give_of d x)
+promise_of (take_back d x i) = fixes did_paper refused_by d (take_back_of d x i)
 promise_of (iter_r v) = makes v (started_of v.now)
 promise_of (next_r it b) = fixes told_paper told_refused it (told_of (next_in it.store.now it.cursor b) (moved_to it))
 promise_of (first_r s b) = fixes told_paper told_refused tt (told_of {X = Unit {0}} (next_in s (started_of s) b) (λ c. tt))

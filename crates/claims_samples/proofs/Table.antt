@@ -11,7 +11,8 @@ use Rattle.store.specs.Answer.{gives, does, refuses}
 use Rattle.store.specs.Build.{flags, chunks, layer_of, stacked, build}
 use Rattle.store.specs.Layout.{max_cap, store_len, top, is_cap, is_store, room, span, layer_end}
 use Rattle.store.specs.Word.{word, on, anc, put}
-use Rattle.store.specs.declared.Did.{Did}
+use Rattle.std.specs.Prelude.{Result}
+use Rattle.store.specs.declared.Refusal.{Refusal}
 use Rattle.set_edit.specs.Calls.{move_of, all_below, add_all, add_list_of}
 use Rattle.set_edit.specs.Edit.{edit, edits, add_layers, word_left, climb, remove_layers, moved_by}
 use Rattle.set_whole.specs.Calls.{open_refusal, open_of, is_empty_of}
@@ -139,7 +140,7 @@ samples = (holds1, (holds2, (holds3, (holds456, (holds7, (holds8, (holds9, (hold
 reached_set : (N : ℕ) (ids : List ℕ) → 1 ≤ N → N ≤ max_cap → Reached N (set_of N ids)
 reached_set N ids some most = after (opened (replicate (store_len N) 0) some most (length-replicate {A = ℕ} (store_len N) 0)) (lists ids)
 
-pub in_place : (ids ids' : List ℕ) (r : Did) (u : List ℕ) → Meets (promise_of (bitand_assign (set_of unnamed ids) (set_of unnamed ids'))) r u
+pub in_place : (ids ids' : List ℕ) (r : Result (Unit {0}) Refusal) (u : List ℕ) → Meets (promise_of (bitand_assign (set_of unnamed ids) (set_of unnamed ids'))) r u
     → u ≡ anded (set_of unnamed ids) (set_of unnamed ids')
 in_place ids ids' r u v =
     (v.whole (reached_whole (reached_set unnamed ids (omega arith) (omega arith)) (reached_set unnamed ids' (omega arith) (omega arith)) 16)).memory
