@@ -1,7 +1,7 @@
 -- How many words are not zero, counted word by word.
-use Rattle.std.proofs.Common.{◌≡◌, ℕ, zero, suc, ◌+◌, ◌-◌, ◌*◌, ◌≤◌, List, [], ◌∷◌, ◌++◌, Bool, true, false, cond, not, ◌==◌, leb, length, get_or, take, count_by, sym, refl, ap, ◌∙◌, add-zero, arith, length-append, length-set, take_at, drop_of_length-le, le-leb}
+use Rattle.std.proofs.Common.{◌≡◌, ℕ, zero, suc, ◌+◌, ◌-◌, ◌*◌, ◌≤◌, List, [], ◌∷◌, ◌++◌, Bool, true, false, cond, not, ◌==◌, leb, length, get_or, take, count_by, sum_by, sym, refl, ap, ◌∙◌, add-zero, arith, length-append, length-set, take_at, drop_of_length-le, le-leb}
 use Rattle.std.proofs.Math.Seq.{set_split}
-use Rattle.std.proofs.lemmas.List.Sums.{count_by-le-length, sum_by_push}
+use Rattle.std.proofs.lemmas.List.Sums.{count_by-le-length, sum_by-cons, sum_by_push}
 use Rattle.std.proofs.lemmas.List.Recursion.{is_count_by}
 use Rattle.std.specs.Int.{from_bool}
 use Rattle.util.specs.Word.{keep, places}
@@ -59,6 +59,15 @@ used_count = is_count_by (λ ws. length (used_at ws)) (λ w. not (w == 0)) used_
     either : (b : Bool) (n : ℕ) → cond b 0 1 + n ≡ cond (not b) (1 + n) n
     either true n = omega arith
     either false n = refl
+
+-- the code adds up flags
+pub flags_few : (ws : List ℕ) → sum_by (λ w. from_bool (not (w == 0))) ws ≤ length ws
+flags_few [] = omega arith
+flags_few (w ∷ ws) = omega (arith, flags_few ws, sum_by-cons (λ w. from_bool (not (w == 0))) w ws, small (not (w == 0)))
+  where
+    small : (b : Bool) → from_bool b ≤ 1
+    small true = omega arith
+    small false = omega arith
 
 -- ---- how long the map is, and whether there is room
 

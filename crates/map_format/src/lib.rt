@@ -29,7 +29,7 @@ pub fn kept_word(layer: &[u64], n: usize, q: usize) -> u64
 fn count_used(words: &[u64]) -> usize
     ensures { result ≡ count_by (λ w. not (w == 0)) words.now }
 {
-    words.iter().filter(|w| **w != 0).count()
+    words.iter().map(|w| usize::from(*w != 0)).sum()
 }
 
 // The length of the map: a header and an entry for each word that is not zero, `last` standing for the last.
