@@ -2,7 +2,7 @@
 use mathlib.Core.List.Memᴰ
 use mathlib.Core.List.{List, [], ◌∷◌, ◌++◌, Memᴰ}
 use mathlib.Core.Logic.{◌≢◌, ◌↔◌, ◌⊎◌, inl, inr, ⊎_elim}
-use mathlib.Core.Path.{◌≡◌, refl, sym, ap, ap₂, ◌∙◌}
+use mathlib.Core.Path.{◌≡◌, refl, sym, ap, ap₂, ◌∙◌, subst}
 use Prim.Native.Nat.{ℕ, zero, suc, ◌+◌, ◌-◌, ◌/◌, ◌%◌, ◌^◌, ◌≤◌, ◌<◌}
 use native.Mathlib.Decide.{ℕ_discrete}
 use native.Mathlib.Nat.{add-zero, pow-suc}
@@ -10,7 +10,7 @@ use native.Mathlib.Omega.{arith}
 use lib.Count.{ones_in, count_trailing_zeros, under}
 use lib.ListN.{length}
 use Rattle.util.specs.Word.{bit, count, keep, places, bits, Rising}
-use Rattle.util.proofs.Bits.{bit_lt, bit_zero, bit_suc, bit_of_zero, minus_same, minus_other}
+use Rattle.util.proofs.Bits.{bit_lt, bit_zero, bit_suc, bit_of_zero, minus_same, minus_other, word_ext}
 
 -- ---- equal functions, none, some before some
 
@@ -187,6 +187,14 @@ lowest_in (suc n) w h p = go (w % 2) refl (λ q. lowest_in n (w / 2) (omega (ari
 pub lowest : (w : ℕ) → w < 2 ^ 64 → 0 < w → Lowest w (count_trailing_zeros 64 w)
 lowest w h p = let l = lowest_in 64 w h p in record { inside = l.0; on = l.1; first = l.2 }
 
+-- the set bits one by one: none of 0, else the lowest and those of the word without it
+pub bits_none : (w : ℕ) → w ≡ 0 → bits w ≡ []
+bits_none w e = ap bits e ∙ bits_zero
+
+pub bits_taken : (w v : ℕ) → w < 2 ^ 64 → w ≢ 0 → v ≡ w - 2 ^ count_trailing_zeros 64 w → bits w ≡ count_trailing_zeros 64 w ∷ bits v
+bits_taken w v h n e =
+    bits_lowest w (count_trailing_zeros 64 w) h (lowest w h (omega arith)) ∙ ap (λ (x : ℕ). count_trailing_zeros 64 w ∷ bits x) (sym e)
+
 -- a word that is not 0 has a set bit
 pub some_bit : (w : ℕ) → w < 2 ^ 64 → w ≢ 0 → (b : ℕ) × (b < 64) × (bit w b ≡ 1)
 some_bit w h n = let l = lowest w h (omega arith) in (count_trailing_zeros 64 w, l.inside, l.on)
@@ -254,3 +262,36 @@ places_rising f b (suc n) = go (f b) (places_rising f (suc b) n)
     go : (d : ℕ) → Rising (suc b) (places f (suc b) n) → Rising b (keep d b (places f (suc b) n))
     go zero r = rising_from b (suc b) (places f (suc b) n) (omega arith) r
     go (suc d) r = (omega arith, r)
+
+-- ---- a word is settled by its set bits: what a loop over them is told
+
+bit_listed : (v u i : ℕ) → bits v ≡ bits u → i < 64 → bit v i ≡ 1 → bit u i ≡ 1
+unfolding bits
+bit_listed v u i e h on =
+    let m : Memᴰ i (places (bit u) 0 64) = subst (λ (l : List ℕ). Memᴰ i l) e (in_places (bit v) 0 64 i (omega arith) (omega arith) (λ z. omega arith)) in
+    omega (arith, (places_in_lem (bit u) 0 64 i m).2, bit_lt u i)
+
+pub bits_settle : (v u : ℕ) → v < 2 ^ 64 → u < 2 ^ 64 → bits v ≡ bits u → v ≡ u
+bits_settle v u h g e = word_ext v u h g (λ i l. at i l (ℕ_discrete (bit v i) 1) (ℕ_discrete (bit u i) 1))
+  where
+    at : (i : ℕ) → i < 64 → Dec (bit v i ≡ 1) → Dec (bit u i ≡ 1) → bit v i ≡ bit u i
+    at i l (yes p) d = p ∙ sym (bit_listed v u i e l p)
+    at i l (no n) (yes q) = absurd (n (bit_listed u v i (sym e) l q))
+    at i l (no n) (no m) = omega (arith, bit_lt v i, bit_lt u i)
+
+-- one is handed out
+pub ones_next : (w v : ℕ) {b : ℕ} → w < 2 ^ 64 → (bits w ≡ b ∷ bits v) × (v ≤ w) → Lowest w b × (v ≡ w - 2 ^ b)
+ones_next w v {b} h (e, g) = go (ℕ_discrete w 0)
+  where
+    go : Dec (w ≡ 0) → Lowest w b × (v ≡ w - 2 ^ b)
+    go (yes z) = let n : [] ≡ b ∷ bits v = sym (bits_none w z) ∙ e in absurd (omega (arith, ap length n))
+    go (no n) =
+        let c : ℕ = count_trailing_zeros 64 w in
+        let t : b ∷ bits v ≡ c ∷ bits (w - 2 ^ c) = sym e ∙ bits_taken w (w - 2 ^ c) h n refl in
+        let q : c ≡ b = cc in
+        let r : v ≡ w - 2 ^ c = bits_settle v (w - 2 ^ c) (omega arith) (omega arith) cc in
+        (subst (Lowest w) q (lowest w h (omega arith)), r ∙ ap (λ (x : ℕ). w - 2 ^ x) q)
+
+-- and none is left
+pub ones_end : (w : ℕ) → w < 2 ^ 64 → bits w ≡ [] → w ≡ 0
+ones_end w h e = bits_settle w 0 h (omega arith) (e ∙ sym bits_zero)

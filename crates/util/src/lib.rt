@@ -1,10 +1,11 @@
 // Bits and shifts: the Rust's util.rs on 64-bit words, and the lowest set bit.
 #![tactic(auto)]
 
-ghost use Rattle.std.specs.Prelude.{◌≡◌, ◌%◌, ◌-◌, ◌^◌, eqb};
+ghost use Rattle.std.specs.Prelude.{◌≡◌, ◌%◌, ◌-◌, ◌^◌, ◌≤◌, eqb};
 ghost use Rattle.std.specs.Int.Count.{count_trailing_zeros};
 ghost use Rattle.util.specs.Row.{offset_of, row_of, mask_of, offsets_of};
-ghost use Rattle.util.specs.Word.{bit, change};
+ghost use Rattle.util.specs.Word.{bit, bits, change};
+ghost use Rattle.std.specs.Iterator.{YieldsFirst, item_count};
 
 // Base two log of the number of bits in a word.
 pub const BITS: usize = 6;
@@ -85,4 +86,27 @@ pub fn drop_lowest(w: u64) -> u64
         return 0;
     }
     w & (w - 1)
+}
+
+// The set bits of a word, the lowest first.
+#[derive(Drop)]
+pub struct Ones(pub u64);
+
+impl Iterator for Ones {
+    type Item = usize;
+
+    ghost next_gives = { λ s r t. YieldsFirst (λ s. bits s.0) s r t × (t.0 ≤ s.0) };
+
+    ghost remaining = { item_count (λ s. bits s.0) };
+
+    // The lowest that is left, which is then taken off.
+    #[tactic(auto, using(crate::proofs::Places::bits_none, crate::proofs::Places::bits_taken))]
+    fn next(&mut self) -> Option<usize> {
+        if self.0 == 0 {
+            return None;
+        }
+        let b = self.0.trailing_zeros() as usize;
+        self.0 = drop_lowest(self.0);
+        Some(b)
+    }
 }
