@@ -9,6 +9,7 @@ ghost use Rattle.ops_word.specs.Named.{code};
 ghost use Rattle.ops_group.specs.Group.{merge_named, mark_named, all, is_dense, group_words, group_over};
 
 use ops_word::Op;
+use util::Ones;
 
 // Whether 12 words or more are named. A quick look first whether three or fewer are, since to count the bits of a word takes some twenty
 // instructions.
@@ -66,12 +67,9 @@ pub fn one_by_one(part: &mut [u64], other: &[u64], w: u64, m: u64, op: Op) -> u6
     ensures value { result ≡ mark_named m (merge_named (code op) m 0 part.old other.now) w }
 {
     let mut over = w;
-    let mut left = m;
-    while left != 0 {
-        let t = left.trailing_zeros() as usize;
+    for t in Ones(m) {
         let z = leaf(part, other, t, op);
         over = util::with_bit(over, t, z != 0);
-        left = util::drop_lowest(left);
     }
     over
 }
