@@ -15,7 +15,7 @@ use Rattle.util.specs.Word.{bit, change}
 use Rattle.util.proofs.Bits.{change_lt}
 use Rattle.store.specs.Layout.{header, top, top_most, layer_len, layer_start, end_of, start_from, StoreOf}
 use Rattle.store.specs.Word.{word, put}
-use Rattle.store.proofs.Ends.{Part, part, start_is, store_small, lent0}
+use Rattle.store.proofs.Ends.{part, start_is, store_small, lent0}
 use Rattle.store.proofs.Geometry.{store_kept}
 use Rattle.store.proofs.Parts.{part_set}
 use Rattle.store.proofs.TopLayer.{top_high}
@@ -44,6 +44,20 @@ small_ask {s} {b} {N} {k} {j} z =
     let h : 6 * (top N - k) ≤ 6 * top_most = omega (arith, top_high N) in
     omega (arith, z.small, pow_mono h)
 
+-- the layer as the part from a to e of both stores
+module _ {s b : List ℕ} {N k j : ℕ} (z : MergeAt s b N k j) {a e : ℕ} (a_is : a ≡ start_from (length s) N k) (e_is : e ≡ end_of N k) where
+  start : a ≡ layer_start N k
+  start = a_is ∙ start_is z.first k
+
+  size : e ≡ a + layer_len N k
+  size = e_is ∙ (part z.first k z.known).ends ∙ (part z.first k z.known).size ∙ ap (λ (y : ℕ). y + layer_len N k) (sym start)
+
+  pub lent : (a ≤ e) × (e ≤ length s) × (e ≤ length b) × (e < 2 ^ 32)
+  lent =
+      let y = part z.first k z.known in
+      let inside : e ≤ length s = omega (arith, e_is, y.ends, y.inside) in
+      (omega (arith, size), inside, omega (arith, inside, z.first.long, z.second.long), omega (arith, inside, store_small z.first))
+
 module _ {N op : ℕ} {s b : List ℕ} {k j w₀ m₀ : ℕ} {t : List ℕ} {w m : ℕ} (z : MergeAt s b N k j) (v : Level N op s b k j w₀ m₀ t w m) where
   pub store_here : StoreOf N t
   store_here = store_kept z.first v.long (v.head 0 (omega arith))
@@ -58,35 +72,15 @@ module _ {N op : ℕ} {s b : List ℕ} {k j w₀ m₀ : ℕ} {t : List ℕ} {w m
         small = subst (λ (y : ℕ). c < y) (sym (ap (λ (y : ℕ). 2 ^ y) f ∙ pow-add 2 (6 * (top N - k)) 6)) (omega (arith, z.small));
       }
 
-  -- the layer as the part from a to e
   module _ {a e : ℕ} (a_is : a ≡ start_from (length s) N k) (e_is : e ≡ end_of N k) where
-    p : Part N t k
-    p = part store_here k z.known
-
-    start : a ≡ layer_start N k
-    start = a_is ∙ start_is z.first k
-
-    size : e ≡ a + layer_len N k
-    size = e_is ∙ p.ends ∙ p.size ∙ ap (λ (y : ℕ). y + layer_len N k) (sym start)
-
-    pub part_inside : e ≤ length t
-    part_inside = omega (arith, p.inside, p.ends)
-
-    -- and where it starts before it ends
-    pub ordered : a ≤ e
-    ordered = omega (arith, size)
-
-    pub near : e < 2 ^ 32
-    near = omega (arith, part_inside, store_small store_here)
-
     pub inside_both : (u : List ℕ) → StoreOf N u → e ≤ length u
-    inside_both u y = omega (arith, part_inside, store_here.long, y.long)
+    inside_both u y = omega (arith, lent z a_is e_is, z.first.long, y.long)
 
     pub layer_word : (u : List ℕ) (c : ℕ) → get_or (mid_of a (e - a) u) c 0 ≡ word N u k c
     unfolding word
     layer_word u c =
-        let n : e - a ≡ layer_len N k = omega (arith, size) in
-        ap₂ (λ (x y : ℕ). get_or (take x (drop y u)) c 0) n start
+        let n : e - a ≡ layer_len N k = omega (arith, size z a_is e_is) in
+        ap₂ (λ (x y : ℕ). get_or (take x (drop y u)) c 0) n (start z a_is e_is)
 
     -- A TURN: word c of the layer and all under it are done
     module _ {c i : ℕ} (some : k ≢ 0) (l : i < 64) (on : bit m i ≡ 1) (c_is : c ≡ j * 64 + i) {x y r : ℕ} {t' ys : List ℕ}
@@ -103,11 +97,11 @@ module _ {N op : ℕ} {s b : List ℕ} {k j w₀ m₀ : ℕ} {t : List ℕ} {w m
 
       written : c < layer_len N k → u ≡ put N t' k c r
       unfolding put
-      written h = part_set a e c r t' ys (omega (arith, size)) in_there ys-is ∙ ap (λ (q : ℕ). set t' (q + c) r) start
+      written h = part_set a e c r t' ys (omega (arith, size z a_is e_is)) in_there ys-is ∙ ap (λ (q : ℕ). set t' (q + c) r) (start z a_is e_is)
 
       passed : layer_len N k ≤ c → u ≡ t'
       passed h =
-          ap (put_mid a (e - a) t') (ys-is ∙ set_out (mid_of a (e - a) t') c r (omega (arith, mid_len a e t' in_there, size)))
+          ap (put_mid a (e - a) t') (ys-is ∙ set_out (mid_of a (e - a) t') c r (omega (arith, mid_len a e t' in_there, size z a_is e_is)))
           ∙ put_same a (e - a) t'
 
       long_u : length u ≡ length t'

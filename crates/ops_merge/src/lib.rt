@@ -9,72 +9,62 @@ ghost use Rattle.ops_merge.specs.Tree.{MergeAt, TaskDone, task_of};
 
 use ops_word::Op;
 use store::Refusal;
+use util::Ones;
 
-// The words of layer 0 under word j of layer 1, of which m names those that can change; w is that word. Answers the word after. The last
-// group may be short.
-fn leaves(store: &mut [u64], other: &[u64], n: usize, j: usize, w: u64, m: u64, op: Op) -> u64
-    requires { MergeAt store.old other.now n 0 j }
-    ensures { TaskDone (task_of (code op) n 0 j w m) store.old other.now store.new result }
-{
-    let a = store::start(store.len(), n, 0) + j * 64;
-    let e = a + 64;
-    if e <= store.len() {
-        return ops_group::group(&mut store[a..e], &other[a..e], w, m, op);
-    }
-    let b = a.min(store.len());
-    ops_group::one_by_one(&mut store[b..], &other[b..], w, m, op)
-}
-
-// All that stands under word j of layer k, above 0, of which m names what can change; w is that word. Answers the word after. The groups
-// of layer 0 are met in the loop itself, and no call is made for each.
-#[cycle(below_under)]
-fn under(
-    store: &mut [u64],
-    other: &[u64],
-    n: usize,
-    k: usize,
+// A word above others: its place in its layer, what it is, and which of the words under it can change. The second store, the capacity and
+// the operation are parameters beside it: from a struct they were read anew at each word, and a merge of stores with 1,000 members in
+// 16,777,216 took 8 to 11 hundredths longer.
+#[derive(Clone, Copy)]
+struct Above {
     j: usize,
     w: u64,
     m: u64,
-    op: Op,
-) -> u64
-    requires { (0 < k) × MergeAt store.old other.now n (k - 1) j }
-    ensures { TaskDone (task_of (code op) n (k - 1) j w m) store.old other.now store.new result }
+}
+
+// The words of layer 0 under a word of layer 1. Answers that word after. The last group may be short.
+fn leaves(store: &mut [u64], other: &[u64], n: usize, a: Above, op: Op) -> u64
+    requires { MergeAt store.old other.now n 0 a.j }
+    ensures { TaskDone (task_of (code op) n 0 a.j a.w a.m) store.old other.now store.new result }
+{
+    let start = store::start(store.len(), n, 0) + a.j * 64;
+    let end = start + 64;
+    if end <= store.len() {
+        return ops_group::group(&mut store[start..end], &other[start..end], a.w, a.m, op);
+    }
+    let last = start.min(store.len());
+    ops_group::one_by_one(&mut store[last..], &other[last..], a.w, a.m, op)
+}
+
+// All that stands under a word of layer k, above 0. Answers that word after. The groups of layer 0 are met in the loop itself, and no call
+// is made for each.
+#[cycle(below_under)]
+fn under(store: &mut [u64], other: &[u64], n: usize, k: usize, a: Above, op: Op) -> u64
+    requires { (0 < k) × MergeAt store.old other.now n (k - 1) a.j }
+    ensures { TaskDone (task_of (code op) n (k - 1) a.j a.w a.m) store.old other.now store.new result }
 {
     if k == 1 {
-        return leaves(store, other, n, j, w, m, op);
+        return leaves(store, other, n, a, op);
     }
-    below(store, other, n, k - 1, j, w, m, op)
+    below(store, other, n, k - 1, a, op)
 }
 
-// The words of layer k, above 0, under word j above, and all that stands under them, as `under`.
+// The words of layer k, above 0, under a word above, and all that stands under them, as `under`.
 #[cycle(below_under)]
-fn below(
-    store: &mut [u64],
-    other: &[u64],
-    n: usize,
-    k: usize,
-    j: usize,
-    w: u64,
-    m: u64,
-    op: Op,
-) -> u64
-    requires { (0 < k) × MergeAt store.old other.now n k j }
-    ensures { TaskDone (task_of (code op) n k j w m) store.old other.now store.new result }
+fn below(store: &mut [u64], other: &[u64], n: usize, k: usize, a: Above, op: Op) -> u64
+    requires { (0 < k) × MergeAt store.old other.now n k a.j }
+    ensures { TaskDone (task_of (code op) n k a.j a.w a.m) store.old other.now store.new result }
 {
-    let a = store::start(store.len(), n, k);
-    let e = store::end(n, k);
-    let mut over = w;
-    let mut left = m;
-    while left != 0 {
-        let t = left.trailing_zeros() as usize;
-        let c = j * 64 + t;
-        let x = store::get(&store[a..e], c);
-        let y = op.moving(x, &other[a..e], c);
-        let z = under(store, other, n, k, c, x, y, op);
-        store::put(&mut store[a..e], c, z);
+    let start = store::start(store.len(), n, k);
+    let end = store::end(n, k);
+    let layer = &other[start..end];
+    let mut over = a.w;
+    for t in Ones(a.m) {
+        let j = a.j * 64 + t;
+        let w = store::get(&store[start..end], j);
+        let m = op.moving(w, layer, j);
+        let z = under(store, other, n, k, Above { j, w, m }, op);
+        store::put(&mut store[start..end], j, z);
         over = util::with_bit(over, t, z != 0);
-        left = util::drop_lowest(left);
     }
     over
 }
@@ -84,6 +74,13 @@ pub fn assign(store: &mut [u64], other: &[u64], op: Op) -> Result<(), Refusal>
     ensures { Assigned (code op) store.old other.now result store.new }
 {
     let n = store::same_capacity(store, other)?;
-    below(store, other, n, store::top(n), 0, 0, 1, op);
+    below(
+        store,
+        other,
+        n,
+        store::top(n),
+        Above { j: 0, w: 0, m: 1 },
+        op,
+    );
     Ok(())
 }

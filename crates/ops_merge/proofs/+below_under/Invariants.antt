@@ -11,8 +11,5 @@ abbrev pub decreases-under : goal.decreases-under
 decreases-under l = 2 * l.k
 
 -- what the words that are left will change goes with what was told
-abbrev pub invariant-below-loop-left : goal.invariant-below-loop-left
-invariant-below-loop-left l = Level l.n (code l.op) l.initial.store l.other l.k l.j l.w l.m l.store l.over l.left
-
-abbrev pub decreases-below-loop-left : goal.decreases-below-loop-left
-decreases-below-loop-left l = l.left
+abbrev pub invariant-below-loop-t : goal.invariant-below-loop-t
+invariant-below-loop-t l = Level l.n (code l.op) l.initial.store l.other l.k l.a.j l.a.w l.a.m l.store l.over l.t-iterator.0

@@ -1,7 +1,7 @@
 -- `leaves` meets its contract: the group is lent as a part of both stores.
 use mathlib.Core.List.{List}
 use mathlib.Core.Path.{◌≡◌, subst}
-use Prim.Native.Nat.{ℕ, ◌+◌, ◌-◌, ◌*◌}
+use Prim.Native.Nat.{ℕ, ◌+◌, ◌-◌, ◌*◌, ◌^◌, ◌<◌}
 use native.Mathlib.Omega.{arith}
 use borrow.Rule.Slice.PartMut.{mid_of}
 use lib.ListN.{length}
@@ -11,27 +11,31 @@ use Rattle.ops_merge.proofs.Leaf.{level_leaves, level_short}
 use Rattle.ops_merge.proofs.Steps.{small_ask, start_near, spot_here, both_long}
 use Rattle.ops_merge.proofs.leaves.Goals as goal
 
-pub overflow_mul-a : goal.overflow_mul-a
-overflow_mul-a c = omega (arith, small_ask c.requires)
+pub overflow_mul-start : goal.overflow_mul-start
+overflow_mul-start c = omega (arith, small_ask c.requires)
 
-pub overflow_add-a : goal.overflow_add-a
-overflow_add-a c = omega (arith, small_ask c.requires, start_near c.requires c.start.ensures)
+pub overflow_add-start : goal.overflow_add-start
+overflow_add-start c = omega (arith, small_ask c.requires, start_near c.requires c.start.ensures)
 
-pub overflow_add-e : goal.overflow_add-e
-overflow_add-e c = omega (arith, small_ask c.requires, start_near c.requires c.start.ensures)
+pub overflow_add-end : goal.overflow_add-end
+overflow_add-end c = omega (arith, small_ask c.requires, start_near c.requires c.start.ensures)
 
-pub returns-then-e-store : goal.returns-then-e-store
-returns-then-e-store c =
-    let a : ℕ = c.start.result + c.args.j * 64 in
-    level_leaves {a = a} {e = a + 64} c.requires.first (spot_here c.requires c.start.ensures (omega (arith, c.if-e-store.true)) (omega (arith, c.if-e-store.true))) (code c.args.op) c.args.other.now c.args.w
-    c.args.m c.ranges.m.fits (both_long c.requires) c.group.ensures.part_after c.group.ensures.value
+pub returns-then-end-store : goal.returns-then-end-store
+returns-then-end-store c =
+    let a = c.args.a in
+    let from : ℕ = c.start.result + a.j * 64 in
+    let few : a.m < 2 ^ 64 = omega arith in
+    level_leaves {a = from} {e = from + 64} c.requires.first (spot_here c.requires c.start.ensures (omega (arith, c.if-end-store.true)) (omega (arith, c.if-end-store.true)))
+    (code c.args.op) c.args.other.now a.w a.m few (both_long c.requires) c.group.ensures.part_after c.group.ensures.value
 
 pub returns : goal.returns
 returns c =
-    let a = c.args in
-    let b : ℕ = c.min-b.result in
+    let a = c.args.a in
+    let few : a.m < 2 ^ 64 = omega arith in
+    let last : ℕ = c.min-last.result in
     let q = both_long c.requires in
-    let after : ℕ → List ℕ = λ k. merge_named (code a.op) a.m 0 (mid_of b (length a.store.now - b) a.store.now) (mid_of b (k - b) a.other.now) in
-    level_short c.requires.first (spot_here c.requires c.start.ensures c.min-b.ensures (omega (arith, c.if-e-store.false, c.min-b.ensures))) (code a.op) a.other.now a.w
-    a.m c.ranges.m.fits q (omega (arith, c.if-e-store.false, c.min-b.ensures)) (subst (λ (k : ℕ). c.one_by_one.new.part ≡ after k) q c.one_by_one.ensures.part_after)
+    let after : ℕ → List ℕ = λ k. merge_named (code c.args.op) a.m 0 (mid_of last (length c.args.store.now - last) c.args.store.now) (mid_of last (k - last) c.args.other.now) in
+    level_short c.requires.first (spot_here c.requires c.start.ensures c.min-last.ensures (omega (arith, c.if-end-store.false, c.min-last.ensures))) (code c.args.op)
+    c.args.other.now a.w a.m few q (omega (arith, c.if-end-store.false, c.min-last.ensures))
+    (subst (λ (k : ℕ). c.one_by_one.new.part ≡ after k) q c.one_by_one.ensures.part_after)
     (subst (λ (k : ℕ). c.one_by_one.result ≡ mark_named a.m (after k) a.w) q c.one_by_one.ensures.value)
