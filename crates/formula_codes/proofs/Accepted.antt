@@ -81,6 +81,15 @@ stores_small ss = go (is_store (nth ss 0))
         (sooner_small (beside_of N (nth ss 1)) (beside_of N (nth ss 2)) (beside_small N (nth ss 1)) (beside_small N (nth ss 2))) (beside_small N (nth ss 3))
     go false = omega arith
 
+pub check_small : (ss : List (List ℕ)) (cs : List ℕ) → check_of ss cs ≤ 6
+unfolding check_of
+check_small ss cs = go (eqb (stores_of ss) 0) (is_formula ss cs)
+  where
+    go : (x f : Bool) → cond x (cond f 0 6) (stores_of ss) ≤ 6
+    go true true = omega arith
+    go true false = omega arith
+    go false f = omega (arith, stores_small ss)
+
 pub formula_one : (ss : List (List ℕ)) (cs : List ℕ) → is_formula ss cs ≡ true → left (map length ss) cs 0 ≡ 1
 unfolding is_formula
 formula_one ss cs e = eqb-true (left (map length ss) cs 0) 1 (both (leb 1 (length cs) && leb (length cs) 32) (eqb (left (map length ss) cs 0) 1) e).1

@@ -7,6 +7,7 @@ use native.Mathlib.Omega.{arith}
 use borrow.Author.Tests.{ltb-true, ltb-false}
 use lib.Dec.{ltb}
 use lib.ListN.{length, get_or, get_or-eq_default}
+use Rattle.std.proofs.lemmas.List.{length-map}
 use Rattle.store.specs.Layout.{top, max_cap, room, layer_len, store_len, cap, end_of, top_most}
 use Rattle.store.specs.Word.{word}
 use Rattle.store.proofs.Ends.{end_is}
@@ -15,6 +16,8 @@ use Rattle.store.proofs.TopLayer.{top_high}
 use Rattle.store.proofs.Words.{word_in, word_out}
 use Rattle.formula_codes.specs.Check.{check_of}
 use Rattle.formula_codes.specs.Codes.{tree_of, cuts_in}
+use Rattle.formula_codes.specs.Formula.{slices}
+use Rattle.formula_codes.specs.declared.Formula.{Formula}
 use Rattle.formula_codes.specs.Tree.{existing, four, nth, tree_word}
 use Rattle.formula_codes.proofs.Accepted.{Accepted, accepted, formula_one, four_slices}
 use Rattle.formula_place.specs.Spots.{words_in, places_in, place_of}
@@ -81,9 +84,10 @@ machine_tree a b c d cs k i g low =
     ∙ leaves_value w k (existing (room N k) i) (map length ss) (map (λ s. get_or s (place_of N k i) 0) ss) cs leaf begun []
     (record { size = refl; few = omega arith; here = refl; tops = tt }) (formula_one ss cs g.formula)
 
--- the same of any four slices
-pub machine_slices : (ss : List (List ℕ)) (cs : List ℕ) (k i : ℕ) → length ss ≡ 4 → check_of ss cs ≡ 0 → k ≤ top (cap (nth ss 0))
-    → machine_word (cap (nth ss 0)) ss cs k i ≡ tree_word (cap (nth ss 0)) ss (tree_of cs) k i
-machine_slices ss cs k i l e low =
-    let q = four_slices ss l in
-    rw (q) (machine_tree (nth ss 0) (nth ss 1) (nth ss 2) (nth ss 3) cs k i (accepted (nth ss 0) (nth ss 1) (nth ss 2) (nth ss 3) cs (rw q at e)) low)
+-- the same of a formula as it is lent
+pub machine_lent : (f : Formula) (k i : ℕ) → length f.stores ≡ 4 → let ss = slices f in check_of ss f.codes.now ≡ 0 → k ≤ top (cap (nth ss 0))
+    → machine_word (cap (nth ss 0)) ss f.codes.now k i ≡ tree_word (cap (nth ss 0)) ss (tree_of f.codes.now) k i
+machine_lent f k i l e low =
+    let ss = slices f in
+    let q = four_slices ss (length-map f.stores (λ s. s.now) ∙ l) in
+    rw q (machine_tree (nth ss 0) (nth ss 1) (nth ss 2) (nth ss 3) f.codes.now k i (accepted (nth ss 0) (nth ss 1) (nth ss 2) (nth ss 3) f.codes.now (rw q at e)) low)
