@@ -13,10 +13,11 @@ use lib.Pow.{pow_mono, pow-add}
 use lib.Seq.{set_out}
 use Rattle.util.specs.Word.{bit, change}
 use Rattle.util.proofs.Bits.{change_lt}
-use Rattle.store.specs.Layout.{header, top, top_most, layer_len, layer_start, end_of, start_from, StoreOf}
+use Rattle.store.specs.Layout.{header, top, layer_len, layer_start, end_of, start_from, StoreOf}
 use Rattle.store.specs.Word.{word, put}
-use Rattle.store.proofs.Ends.{part, start_is, store_small, lent0}
+use Rattle.store.proofs.Ends.{part, start_is}
 use Rattle.store.proofs.Geometry.{store_kept}
+use Rattle.store.proofs.Inside.{end_inside}
 use Rattle.store.proofs.Parts.{part_set}
 use Rattle.store.proofs.TopLayer.{top_high}
 use Rattle.store.proofs.Words.{header-put}
@@ -39,10 +40,8 @@ pub level_zero : {N op : ℕ} {s b : List ℕ} {k j w₀ m₀ : ℕ} {t : List �
 level_zero {N} {op} {s} {b} {k} {j} {w₀} {m₀} {t} {w} {m} e v = subst (λ (y : ℕ). Level N op s b y j w₀ m₀ t w m) (sym e) v
 
 -- places stay far below the largest number
-pub small_ask : {s b : List ℕ} {N k j : ℕ} → MergeAt s b N k j → j < 2 ^ 36
-small_ask {s} {b} {N} {k} {j} z =
-    let h : 6 * (top N - k) ≤ 6 * top_most = omega (arith, top_high N) in
-    omega (arith, z.small, pow_mono h)
+pub places_few : (N k : ℕ) → 2 ^ (6 * (top N - k)) ≤ 2 ^ 36
+places_few N k = let h : 6 * (top N - k) ≤ 36 = omega (arith, top_high N) in pow_mono h
 
 -- the layer as the part from a to e of both stores
 module _ {s b : List ℕ} {N k j : ℕ} (z : MergeAt s b N k j) {a e : ℕ} (a_is : a ≡ start_from (length s) N k) (e_is : e ≡ end_of N k) where
@@ -51,12 +50,6 @@ module _ {s b : List ℕ} {N k j : ℕ} (z : MergeAt s b N k j) {a e : ℕ} (a_i
 
   size : e ≡ a + layer_len N k
   size = e_is ∙ (part z.first k z.known).ends ∙ (part z.first k z.known).size ∙ ap (λ (y : ℕ). y + layer_len N k) (sym start)
-
-  pub lent : (a ≤ e) × (e ≤ length s) × (e ≤ length b) × (e < 2 ^ 32)
-  lent =
-      let y = part z.first k z.known in
-      let inside : e ≤ length s = omega (arith, e_is, y.ends, y.inside) in
-      (omega (arith, size), inside, omega (arith, inside, z.first.long, z.second.long), omega (arith, inside, store_small z.first))
 
 module _ {N op : ℕ} {s b : List ℕ} {k j w₀ m₀ : ℕ} {t : List ℕ} {w m : ℕ} (z : MergeAt s b N k j) (v : Level N op s b k j w₀ m₀ t w m) where
   pub store_here : StoreOf N t
@@ -74,7 +67,7 @@ module _ {N op : ℕ} {s b : List ℕ} {k j w₀ m₀ : ℕ} {t : List ℕ} {w m
 
   module _ {a e : ℕ} (a_is : a ≡ start_from (length s) N k) (e_is : e ≡ end_of N k) where
     pub inside_both : (u : List ℕ) → StoreOf N u → e ≤ length u
-    inside_both u y = omega (arith, lent z a_is e_is, z.first.long, y.long)
+    inside_both u y = omega (arith, e_is, end_inside y z.known)
 
     pub layer_word : (u : List ℕ) (c : ℕ) → get_or (mid_of a (e - a) u) c 0 ≡ word N u k c
     unfolding word
@@ -168,9 +161,6 @@ module _ {N op : ℕ} {s b : List ℕ} {k j w₀ m₀ : ℕ} {t : List ℕ} {w m
 -- ---- the group of layer 0 under word j
 
 module _ {s b : List ℕ} {N j : ℕ} (z : MergeAt s b N 0 j) where
-  pub start_near : {a : ℕ} → a ≡ start_from (length s) N 0 → a < 2 ^ 32
-  start_near {a} h = omega (arith, (lent0 z.first h).inside, store_small z.first)
-
   pub spot_here : {a e f : ℕ} → f ≡ start_from (length s) N 0 → a ≡ min (f + j * 64) (length s) → e ≡ min (a + 64) (length s) → GroupSpot N s j a e
   spot_here {a} {e} {f} g h i = record { from = h ∙ ap (λ (x : ℕ). min (x + j * 64) (length s)) (g ∙ start_is z.first 0); upto = i }
 

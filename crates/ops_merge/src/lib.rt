@@ -22,6 +22,7 @@ struct Above {
 }
 
 // The words of layer 0 under a word of layer 1. Answers that word after. The last group may be short.
+#[tactic(auto, using(crate::proofs::Steps::places_few, store::proofs::Inside::start_inside, store::proofs::Ends::length_small))]
 fn leaves(store: &mut [u64], other: &[u64], n: usize, a: Above, op: Op) -> u64
     requires { MergeAt store.old other.now n 0 a.j }
     ensures { TaskDone (task_of (code op) n 0 a.j a.w a.m) store.old other.now store.new result }
@@ -39,7 +40,8 @@ fn leaves(store: &mut [u64], other: &[u64], n: usize, a: Above, op: Op) -> u64
 // is made for each.
 #[cycle(below_under)]
 fn under(store: &mut [u64], other: &[u64], n: usize, k: usize, a: Above, op: Op) -> u64
-    requires { (0 < k) × MergeAt store.old other.now n (k - 1) a.j }
+    requires above { 0 < k }
+    requires at { MergeAt store.old other.now n (k - 1) a.j }
     ensures { TaskDone (task_of (code op) n (k - 1) a.j a.w a.m) store.old other.now store.new result }
 {
     if k == 1 {
@@ -50,8 +52,10 @@ fn under(store: &mut [u64], other: &[u64], n: usize, k: usize, a: Above, op: Op)
 
 // The words of layer k, above 0, under a word above, and all that stands under them, as `under`.
 #[cycle(below_under)]
+#[tactic(auto, using(crate::proofs::Steps::places_few, store::proofs::Inside::start_to_end, store::proofs::Inside::end_inside))]
 fn below(store: &mut [u64], other: &[u64], n: usize, k: usize, a: Above, op: Op) -> u64
-    requires { (0 < k) × MergeAt store.old other.now n k a.j }
+    requires above { 0 < k }
+    requires at { MergeAt store.old other.now n k a.j }
     ensures { TaskDone (task_of (code op) n k a.j a.w a.m) store.old other.now store.new result }
 {
     let start = store::start(store.len(), n, k);

@@ -14,7 +14,7 @@ returns-in_err-n c =
 pub below-requires : goal.below-requires
 below-requires c =
     let z = both_stores c.args.store.now c.args.other.now c.same_capacity.ensures c.in_ok-n.was in
-    (omega (arith, c.top.ensures, top_low c.in_ok-n.n), ask_top z.0 z.1 c.top.ensures)
+    record { above = omega (arith, c.top.ensures, top_low c.in_ok-n.n); at = ask_top z.0 z.1 c.top.ensures }
 
 pub returns : goal.returns
 returns c =

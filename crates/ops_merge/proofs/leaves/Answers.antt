@@ -8,17 +8,8 @@ use lib.ListN.{length}
 use Rattle.ops_word.specs.Named.{code}
 use Rattle.ops_group.specs.Group.{merge_named, mark_named}
 use Rattle.ops_merge.proofs.Leaf.{level_leaves, level_short}
-use Rattle.ops_merge.proofs.Steps.{small_ask, start_near, spot_here, both_long}
+use Rattle.ops_merge.proofs.Steps.{spot_here, both_long}
 use Rattle.ops_merge.proofs.leaves.Goals as goal
-
-pub overflow_mul-start : goal.overflow_mul-start
-overflow_mul-start c = omega (arith, small_ask c.requires)
-
-pub overflow_add-start : goal.overflow_add-start
-overflow_add-start c = omega (arith, small_ask c.requires, start_near c.requires c.start.ensures)
-
-pub overflow_add-end : goal.overflow_add-end
-overflow_add-end c = omega (arith, small_ask c.requires, start_near c.requires c.start.ensures)
 
 pub returns-then-end-store : goal.returns-then-end-store
 returns-then-end-store c =
