@@ -3,17 +3,19 @@ use mathlib.Core.Bool.{Bool, true, false}
 use mathlib.Core.List.{List}
 use mathlib.Core.Logic.{◌⊎◌, inl, inr}
 use mathlib.Core.Path.{◌≡◌, refl, subst}
-use Prim.Native.Nat.{ℕ, ◌/◌}
+use Prim.Native.Nat.{ℕ, ◌/◌, ◌<◌}
 use native.Mathlib.Omega.{arith}
 use borrow.Author.Tests.{ltb-true}
 use lib.Dec.{ltb}
+use lib.ListN.{length}
 use Rattle.std.specs.Prelude.{Result, Ok, Err, IsErrAnd}
 use Rattle.util.specs.Outcome.{Settled, settled, settles}
 use Rattle.store.specs.Answer.{tested}
-use Rattle.store.specs.Layout.{layer_start, cap, is_store, StoreOf}
+use Rattle.store.specs.Layout.{layer_start, start_from, id_word_of, cap, is_store, StoreOf}
 use Rattle.store.specs.Word.{word}
 use Rattle.store.specs.declared.Refusal.{Refusal}
 use Rattle.store.specs.declared.Refusal.TheVariants.{NoStore, Id}
+use Rattle.store.proofs.Ends.{some_store, id-word, start_is}
 use Rattle.store.proofs.Exits.{no_store_out}
 use Rattle.store.proofs.Geometry.{is_store_lem, store_is}
 use Rattle.set_member.specs.Calls.{locate_of}
@@ -21,6 +23,10 @@ use Rattle.set_member.specs.Place.{place_paper, Inside, Outside}
 use Rattle.set_member.specs.declared.Place.{Place}
 
 -- ---- the ways out of `locate`
+
+-- past both tests the id's word lies in the store
+pub word_inside : (s : List ℕ) (n i : ℕ) → tested s ≡ Ok n → ltb i n ≡ true → id_word_of (start_from (length s) n 0) i < length s
+word_inside s n i e h = let z = some_store s refl e in (id-word z (ltb-true i n h) (start_is z 0)).inside
 
 module _ (s : List ℕ) (i : ℕ) where
   nowhere : is_store s ≡ false → Settled place_paper (locate_of s i) (Err NoStore) tt

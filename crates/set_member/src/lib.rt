@@ -25,29 +25,18 @@ pub fn has_room(id: u32, n: usize) -> bool
     (id as usize) < n
 }
 
-// The layer-0 word of an id.
-fn word0(store: &[u64], n: usize, id: u32) -> u64
-    requires { Placed store.now n id 0 }
-    ensures { result ≡ word n store.now 0 (id / 64) }
-{
-    let a = store::start(store.len(), n, 0);
-    store[store::id_word(a, id)]
-}
-
 // What every call on an id begins with: its tests, and the word that it reads.
+#[tactic(auto, using(crate::proofs::Places::word_inside))]
 pub fn locate(store: &[u64], id: u32) -> Result<Place, Refusal>
     ensures { Settled place_paper (locate_of store.now id) result tt }
 {
     let n = store::capacity(store)?;
-    if has_room(id, n) {
-        Ok(Place {
-            n,
-            start: store::start(store.len(), n, 0),
-            word: word0(store, n, id),
-        })
-    } else {
-        Err(Refusal::Id)
+    if !has_room(id, n) {
+        return Err(Refusal::Id);
     }
+    let start = store::start(store.len(), n, 0);
+    let word = store[store::id_word(start, id)];
+    Ok(Place { n, start, word })
 }
 
 // Whether the id is a member: below the capacity, with its layer-0 bit set.
