@@ -208,6 +208,10 @@ turn {N} ids k z e room h =
     let below : get_or ids k 0 < N = ltb-true _ _ b.0 in
     record { placed = record { store = z; below = below; layer = omega arith }; word = id-word z below e; rest = b.1 }
 
+pub turn_inside : (N : ℕ) (s ids : List ℕ) (k : ℕ) → StoreOf N s → all_below N (drop k ids) ≡ true → k < length ids
+    → id_word_of (layer_start N 0) (get_or ids k 0) < length s
+turn_inside N s ids k z room h = (turn ids k z refl room h).word.inside
+
 module _ (s ids : List ℕ) where
   pub list_2 : {r : Result ℕ Refusal} {q : Result (Unit {0}) Refusal} {x : Refusal} → r ≡ tested s → r ≡ Err x → IsErrAnd q (λ y. y ≡ x)
       → Settled did_paper (add_list_of s ids) q s

@@ -109,6 +109,7 @@ fn all_below(ids: &[u32], n: usize) -> bool
 }
 
 // Adds every id of a list that has room for all.
+#[tactic(auto, using(crate::proofs::Answers::turn_inside))]
 fn add_all(store: &mut [u64], n: usize, ids: &[u32])
     requires { (StoreOf n store.old) × (all_below n ids.now ≡ true) }
     ensures { store.new ≡ add_all n store.old ids.now }

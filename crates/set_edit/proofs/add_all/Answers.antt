@@ -5,7 +5,7 @@ use native.Mathlib.Numerals.{add-one}
 use native.Mathlib.Omega.{arith}
 use lib.ListN.{length, get_or}
 use Rattle.store.specs.Layout.{cap}
-use Rattle.store.proofs.Ends.{start_is, store_small}
+use Rattle.store.proofs.Ends.{start_is}
 use Rattle.store.proofs.Geometry.{store_kept}
 use Rattle.set_edit.proofs.Answers.{turn, add_turn, add_end}
 use Rattle.set_edit.proofs.Edits.{length_moved, cap_moved}
@@ -13,18 +13,6 @@ use Rattle.set_edit.proofs.add_all.Goals as goal
 
 pub loop-id-init : goal.loop-id-init
 loop-id-init c = record { store = c.requires.0; starts = c.start-a.ensures ∙ start_is c.requires.0 0; room = c.requires.1; rest = refl }
-
-pub offset_bounds-store-id_word : goal.offset_bounds-store-id_word
-offset_bounds-store-id_word c =
-    let l = c.loop-id.invariant in
-    let t = turn c.args.ids.now c.loop-id.id-index l.store l.starts l.room (omega arith) in
-    omega (arith, t.word.inside, store_small l.store)
-
-pub bounds-store-id_word : goal.bounds-store-id_word
-bounds-store-id_word c =
-    let l = c.loop-id.invariant in
-    let t = turn c.args.ids.now c.loop-id.id-index l.store l.starts l.room (omega arith) in
-    omega (arith, t.word.inside)
 
 pub moved-requires : goal.moved-requires
 moved-requires c =
