@@ -35,7 +35,7 @@ use Rattle.walk_reader.specs.Readers.{told}
 use Rattle.walk_reader.proofs.first.Reads.{Asked as first_r_asks, Learnt as first_r_tells}
 use Rattle.walk_reader.specs.contracts.iter as iter
 use Rattle.walk_reader.specs.contracts.next as next_of
-use Rattle.formula_codes.specs.Tree.{four}
+use Rattle.formula_codes.specs.Formula.{slices}
 use Rattle.formula_ask.proofs.contains.Reads.{Asked as contains_f_asks, Learnt as contains_f_tells}
 use Rattle.formula_ask.proofs.get_from_layer.Reads.{Asked as get_from_layer_f_asks, Learnt as get_from_layer_f_tells}
 use Rattle.formula_ask.proofs.is_empty.Reads.{Asked as is_empty_f_asks, Learnt as is_empty_f_tells}
@@ -132,24 +132,24 @@ next_promised = (refl, refl)
 pub fill_promised : (fill_asks ≡ λ κs a. Unit {0}) × (fill_tells ≡ λ κs a z e. Meets (promise_of (fill a.1.0.now a.0 a.1.1.0 a.1.1.1.0.now)) z e.1.1.1.0.now)
 fill_promised = (refl, refl)
 
--- ---- formulas: the codes come before the four slices
+-- ---- formulas: the codes and the four slices are one struct, lent
 
-pub contains_f_promised : (contains_f_asks ≡ λ κs a. Unit {0}) × (contains_f_tells ≡ λ κs a z e. Meets (promise_of (contains_f (four a.1.0.now a.1.1.0.now a.1.1.1.0.now a.1.1.1.1.0.now) a.0.now a.1.1.1.1.1.0)) z tt)
+pub contains_f_promised : (contains_f_asks ≡ λ κs a. Unit {0}) × (contains_f_tells ≡ λ κs a z e. Meets (promise_of (contains_f (slices a.0.now) a.0.now.codes.now a.1.0)) z tt)
 contains_f_promised = (refl, refl)
 
-pub is_empty_f_promised : (is_empty_f_asks ≡ λ κs a. Unit {0}) × (is_empty_f_tells ≡ λ κs a z e. Meets (promise_of (is_empty_f (four a.1.0.now a.1.1.0.now a.1.1.1.0.now a.1.1.1.1.0.now) a.0.now)) z tt)
+pub is_empty_f_promised : (is_empty_f_asks ≡ λ κs a. Unit {0}) × (is_empty_f_tells ≡ λ κs a z e. Meets (promise_of (is_empty_f (slices a.0.now) a.0.now.codes.now)) z tt)
 is_empty_f_promised = (refl, refl)
 
-pub get_from_layer_f_promised : (get_from_layer_f_asks ≡ λ κs a. Unit {0}) × (get_from_layer_f_tells ≡ λ κs a z e. Meets (promise_of (get_from_layer_f (four a.1.0.now a.1.1.0.now a.1.1.1.0.now a.1.1.1.1.0.now) a.0.now a.1.1.1.1.1.0 a.1.1.1.1.1.1.0)) z tt)
+pub get_from_layer_f_promised : (get_from_layer_f_asks ≡ λ κs a. Unit {0}) × (get_from_layer_f_tells ≡ λ κs a z e. Meets (promise_of (get_from_layer_f (slices a.0.now) a.0.now.codes.now a.1.0 a.1.1.0)) z tt)
 get_from_layer_f_promised = (refl, refl)
 
-pub start_f_promised : (start_f_asks ≡ λ κs a. Unit {0}) × (start_f_tells ≡ λ κs a z e. Meets (promise_of (start_f (four a.1.1.0.now a.1.1.1.0.now a.1.1.1.1.0.now a.1.1.1.1.1.0.now) a.1.0.now a.0)) z tt)
+pub start_f_promised : (start_f_asks ≡ λ κs a. Unit {0}) × (start_f_tells ≡ λ κs a z e. Meets (promise_of (start_f (slices a.1.0.now) a.1.0.now.codes.now a.0)) z tt)
 start_f_promised = (refl, refl)
 
-pub next_f_promised : (next_f_asks ≡ λ κs a. Unit {0}) × (next_f_tells ≡ λ κs a z e. Meets (promise_of (next_f (four a.1.1.0.now a.1.1.1.0.now a.1.1.1.1.0.now a.1.1.1.1.1.0.now) a.1.0.now a.0 a.1.1.1.1.1.1.0)) z tt)
+pub next_f_promised : (next_f_asks ≡ λ κs a. Unit {0}) × (next_f_tells ≡ λ κs a z e. Meets (promise_of (next_f (slices a.1.0.now) a.1.0.now.codes.now a.0 a.1.1.0)) z tt)
 next_f_promised = (refl, refl)
 
-pub fill_f_promised : (fill_f_asks ≡ λ κs a. Unit {0}) × (fill_f_tells ≡ λ κs a z e. Meets (promise_of (fill_f (four a.1.1.0.now a.1.1.1.0.now a.1.1.1.1.0.now a.1.1.1.1.1.0.now) a.1.0.now a.0 a.1.1.1.1.1.1.0 a.1.1.1.1.1.1.1.0.now)) z e.1.1.1.1.1.1.1.0.now)
+pub fill_f_promised : (fill_f_asks ≡ λ κs a. Unit {0}) × (fill_f_tells ≡ λ κs a z e. Meets (promise_of (fill_f (slices a.1.0.now) a.1.0.now.codes.now a.0 a.1.1.0 a.1.1.1.0.now)) z e.1.1.1.0.now)
 fill_f_promised = (refl, refl)
 
 -- ---- maps
