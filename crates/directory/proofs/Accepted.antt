@@ -14,7 +14,7 @@ use Rattle.store.proofs.Geometry.{store_is}
 use Rattle.set_free.specs.Calls.{first_free_of, LowestFree}
 use Rattle.set_free.proofs.Lowest.{free_told, free_found}
 use Rattle.directory.specs.Calls.{Directory, unless, item_refusal, return_refusal, give_of, take_back_of}
-use Rattle.directory.proofs.Answers.{judged, Returned, returned}
+use Rattle.directory.proofs.Answers.{for_item, Returned, returned}
 
 -- what holds of the refused, and of the accepted where nothing stands in the way, holds of the call
 pub by_unless : (Q : Outcome Directory → Type 0) (r : ℕ) (d : Directory) (o : Outcome Directory) → (r ≢ 0 → Q (refuses r d)) → (r ≡ 0 → Q o)
@@ -40,7 +40,7 @@ pub give_lowest : (d : Directory) (x : ℕ) → refusal_number (give_of d x) ≡
 unfolding give_of
 give_lowest d x =
     by_unless Q (item_refusal d x) d _ (λ n e. absurd (n e))
-    (λ j. by_unless Q (refusal_number (first_free_of d.store)) d _ (λ n e. absurd (n e)) (λ z e. found_lowest d.store (judged d x j).is z))
+    (λ j. by_unless Q (refusal_number (first_free_of d.store)) d _ (λ n e. absurd (n e)) (λ z e. found_lowest d.store (for_item d x j).is z))
   where
     Q : Outcome Directory → Type 0
     Q o = refusal_number o ≡ 0 → LowestFree d.store (value_of o)

@@ -13,7 +13,7 @@ use Rattle.store.proofs.Geometry.{store_is}
 use Rattle.set_free.proofs.Header.{one_is_full}
 use Rattle.directory.specs.Calls.{Directory, owner_at, is_item, item_refusal, give_of, take_back_of}
 use Rattle.directory.specs.History.{DirectoryCall, history_of, InOrder, HeaderKept}
-use Rattle.directory.proofs.Answers.{item_in, judged, return_15}
+use Rattle.directory.proofs.Answers.{item_in, for_item, return_15}
 use Rattle.directory.proofs.Accepted.{give_lowest}
 use Rattle.directory.proofs.History.{in_order, in_order_ready}
 
@@ -24,7 +24,7 @@ never_given d x e z = omega (arith, z, (give_lowest d x e).from)
 -- "a capacity of 1 is always full": a give that nothing else stands in the way of is refused by 12
 pub one-gives_none : (d : Directory) (x : ℕ) → item_refusal d x ≡ 0 → cap d.store ≡ 1 → give_of d x ≡ refuses 12 d
 unfolding give_of
-one-gives_none d x j e = rw (j, one_is_full (subst (λ (n : ℕ). StoreOf n d.store) e (store_is (judged d x j).is)))
+one-gives_none d x j e = rw (j, one_is_full (subst (λ (n : ℕ). StoreOf n d.store) e (store_is (for_item d x j).is)))
 
 -- OVER ANY LIST OF CALLS, from any slices: once an opening was accepted, byte 0 is 0, and a return of chunk 0 is refused by 15
 module _ (d : Directory) (ks : List DirectoryCall) (opened : (history_of d ks).figures.opened ≡ true) where

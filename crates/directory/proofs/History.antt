@@ -23,7 +23,7 @@ use Rattle.set_whole.proofs.Theorems.{opened_by}
 use Rattle.directory.specs.Calls.{Directory, directory, owner_at, is_item, room_refusal, item_refusal, directory_open_of, give_of, take_back_of}
 use Rattle.directory.specs.History.{DirectoryCall, outcome_of, gave, Figures, owned_by, after_accepted, figures_after, History, one_more, go_on_with, history_of, Owns, InOrder, NoneGiven, UsedAgain}
 use Rattle.directory.specs.History.DirectoryCall.{opening, giving, returning}
-use Rattle.directory.proofs.Answers.{item_in, room_in, judge_0, judged, Returned, returned}
+use Rattle.directory.proofs.Answers.{item_in, room_in, judge_0, for_item, Returned, returned}
 use Rattle.directory.proofs.Accepted.{by_unless, found_lowest, give_lowest, return_owned, give_keeps}
 
 -- a byte has one owner at most
@@ -119,7 +119,7 @@ module _ (d : Directory) (f : Figures) (was : InOrder (record { now = d; figures
   given_in_order x j c l = changed_in_order changed was f.opened (suc f.given) f.returned (omega (arith, was.balance, more))
     where
       is : is_store s ≡ true
-      is = (judged d x j).is
+      is = (for_item d x j).is
 
       more : count_below (cap s) (add_of s c).lent (cap s) ≡ suc (count_below (cap s) s (cap s))
       more = count_add s c is (cap s) l.below l.below l.free
@@ -128,10 +128,10 @@ module _ (d : Directory) (f : Figures) (was : InOrder (record { now = d; figures
       changed =
           record {
             sound = fine_after_add was.sound c;
-            below = omega (arith, l.below, (judged d x j).long);
+            below = omega (arith, l.below, (for_item d x j).long);
             bytes = refl;
             others = λ i n. (let m = member_add s c i is l.below in (λ h. ⊎_elim (λ e. absurd (n e)) (λ h. h) (m.0 h), λ h. m.1 (inr h)));
-            here = ((λ h. (judged d x j).item), λ h. (member_add s c c is l.below).1 (inl refl));
+            here = ((λ h. (for_item d x j).item), λ h. (member_add s c c is l.below).1 (inl refl));
             empty = λ none. absurd (none ((member_add s c c is l.below).1 (inl refl)));
             first = λ h. l.from;
           }
@@ -215,7 +215,7 @@ call_hands h (giving x) =
     let d = h.now in
     by_unless (HandsOn h (giving x)) _ d _ (refused_hands h (giving x) _)
     (λ j. by_unless (HandsOn h (giving x)) _ d _ (refused_hands h (giving x) _)
-    (λ z p e. given_in_order d h.figures (p e) x j (value_of (first_free_of d.store)) (found_lowest d.store (judged d x j).is z)))
+    (λ z p e. given_in_order d h.figures (p e) x j (value_of (first_free_of d.store)) (found_lowest d.store (for_item d x j).is z)))
 call_hands h (returning x c) =
     by_unless (HandsOn h (returning x c)) _ h.now _ (refused_hands h (returning x c) _)
     (λ z p e. returned_in_order h.now h.figures (p e) x c (returned h.now x c z))

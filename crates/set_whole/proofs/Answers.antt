@@ -64,7 +64,7 @@ can_open_lem N len h = go (is_cap N) refl (eqb len (store_len N)) refl h
     go true e false f q = absurd (omega (arith, q))
     go false e b f q = absurd (omega (arith, q))
 
-few_refusals : (N len : ℕ) → open_refusal N len ≤ 2
+pub few_refusals : (N len : ℕ) → open_refusal N len ≤ 2
 unfolding open_refusal
 few_refusals N len = go (is_cap N) (eqb len (store_len N))
   where

@@ -2,9 +2,9 @@
 use Rattle.std.proofs.Common.{◌≡◌, ◌≢◌, ℕ, Bool, true, false, sym, refl, ap, ◌∙◌, true≢false}
 use Rattle.std.proofs.lemmas.Bool.{eqb-true}
 use Rattle.std.specs.Prelude.{Result, Ok, Err, ◌==◌}
-use Rattle.store.specs.Answer.{judged, numbered, refused}
+use Rattle.store.specs.Answer.{number, judged, numbered, refused}
 use Rattle.store.specs.declared.Refusal.{Refusal}
-use Rattle.store.specs.declared.Refusal.TheVariants.{NoStore}
+use Rattle.store.specs.declared.Refusal.TheVariants.{Capacity, NoStore, Id, Layer, Capacities, Formula, Cursor, Buffer, Header, Entry, Members, Full, Owners, Item, Owner}
 
 abbrev is_ok : Result (Unit {0}) Refusal → Bool
 is_ok (Ok u) = true
@@ -32,3 +32,8 @@ module _ {r : Result (Unit {0}) Refusal} (n : ℕ) (e : r ≡ judged n) where
       go false p =
           let t : judged n ≡ refused n = rw p in
           (λ z. absurd (true≢false (rw z at p)), ap err_of (sym h ∙ e ∙ t))
+
+-- a refusal is what its number is judged as
+pub judged-number : (e : Refusal) → judged (number e) ≡ Err e
+unfolding numbered
+judged-number e = elim e as (λ x. judged (number x) ≡ Err x) [ Capacity ↦ refl | NoStore ↦ refl | Id ↦ refl | Layer ↦ refl | Capacities ↦ refl | Formula ↦ refl | Cursor ↦ refl | Buffer ↦ refl | Header ↦ refl | Entry ↦ refl | Members ↦ refl | Full ↦ refl | Owners ↦ refl | Item ↦ refl | Owner ↦ refl ]
