@@ -5,6 +5,7 @@ ghost use Rattle.std.specs.Prelude.{◌≡◌};
 ghost use Rattle.directory.specs.Calls.{directory, directory_open_of, give_of, take_back_of};
 ghost use Rattle.export_answer.specs.Abi.{answer_of};
 
+use directory::Directory;
 use export_answer::Answer;
 
 #[unsafe(no_mangle)]
@@ -13,7 +14,7 @@ pub extern "C" fn fen_directory_open(store: &mut [u64], owners: &mut [u8], n: u3
     ensures store_after { store.new ≡ (directory_open_of (directory store.old owners.old) n).lent.store }
     ensures owners_after { owners.new ≡ (directory_open_of (directory store.old owners.old) n).lent.owners }
 {
-    export_answer::did(directory::open(store, owners, n))
+    Answer::from(Directory { store, owners }.open(n))
 }
 
 #[unsafe(no_mangle)]
@@ -22,7 +23,7 @@ pub extern "C" fn fen_directory_give(store: &mut [u64], owners: &mut [u8], item:
     ensures store_after { store.new ≡ (give_of (directory store.old owners.old) item).lent.store }
     ensures owners_after { owners.new ≡ (give_of (directory store.old owners.old) item).lent.owners }
 {
-    export_answer::found(directory::give(store, owners, item))
+    Answer::from(Directory { store, owners }.give(item))
 }
 
 #[unsafe(no_mangle)]
@@ -36,5 +37,5 @@ pub extern "C" fn fen_directory_return(
     ensures store_after { store.new ≡ (take_back_of (directory store.old owners.old) item chunk).lent.store }
     ensures owners_after { owners.new ≡ (take_back_of (directory store.old owners.old) item chunk).lent.owners }
 {
-    export_answer::did(directory::take_back(store, owners, item, chunk))
+    Answer::from(Directory { store, owners }.take_back(item, chunk))
 }

@@ -1,7 +1,0 @@
--- `export_directory::fen_directory_return` meets its contract.
-use Rattle.store.specs.Answer.{did_paper}
-use Rattle.export_directory.proofs.Told.{directory-told}
-use Rattle.export_directory.proofs.fen_directory_return.Goals as goal
-
-pub returns-clause-value : goal.returns-clause-value
-returns-clause-value c = (directory-told did_paper c.take_back.ensures c.did.ensures).0
