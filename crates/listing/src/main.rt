@@ -84,9 +84,6 @@ fn main() {
     let mut left = u64::MAX - 1;
     loop {
         let n = fill(&mut piece, left);
-        if n == 0 {
-            break;
-        }
         left -= n as u64;
         listing.feed(&piece[..n]);
         // a piece that is not full is the last: the input ended, or a read failed
