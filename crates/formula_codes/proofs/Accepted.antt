@@ -132,3 +132,20 @@ four_slices (a ∷ b ∷ []) l = absurd (omega arith)
 four_slices (a ∷ b ∷ c ∷ []) l = absurd (omega arith)
 four_slices (a ∷ b ∷ c ∷ d ∷ []) l = refl
 four_slices (a ∷ b ∷ c ∷ d ∷ e ∷ ss) l = absurd (omega arith)
+
+-- store 0 is a store where the slices are not refused, nor with the codes
+pub stores_first : (ss : List (List ℕ)) → stores_of ss ≡ 0 → StoreOf (cap (nth ss 0)) (nth ss 0)
+unfolding stores_of
+stores_first ss e = go _ (is_store (nth ss 0)) refl e
+  where
+    go : (m : ℕ) (x : Bool) → is_store (nth ss 0) ≡ x → cond x m 2 ≡ 0 → StoreOf (cap (nth ss 0)) (nth ss 0)
+    go m true p e = store_is p
+    go m false p e = absurd (omega (arith, e))
+
+pub accepted_first : (ss : List (List ℕ)) (cs : List ℕ) → check_of ss cs ≡ 0 → StoreOf (cap (nth ss 0)) (nth ss 0)
+unfolding check_of
+accepted_first ss cs e = stores_first ss (go _ (eqb (stores_of ss) 0) refl e)
+  where
+    go : (m : ℕ) (x : Bool) → eqb (stores_of ss) 0 ≡ x → cond x m (stores_of ss) ≡ 0 → stores_of ss ≡ 0
+    go m true p e = eqb-true (stores_of ss) 0 p
+    go m false p e = e
