@@ -49,10 +49,10 @@ use Rattle.map_write.proofs.write.Reads.{Asked as write_asks, Learnt as write_te
 use Rattle.map_write.proofs.length.Reads.{Asked as map_length_asks, Learnt as map_length_tells}
 use Rattle.map_read.proofs.capacity.Reads.{Asked as map_capacity_asks, Learnt as map_capacity_tells}
 use Rattle.map_read.proofs.read.Reads.{Asked as read_asks, Learnt as read_tells}
-use Rattle.directory.specs.Calls.{directory}
-use Rattle.directory.proofs.give.Reads.{Asked as give_asks, Learnt as give_tells}
-use Rattle.directory.proofs.open.Reads.{Asked as open_directory_asks, Learnt as open_directory_tells}
-use Rattle.directory.proofs.take_back.Reads.{Asked as take_back_asks, Learnt as take_back_tells}
+use Rattle.directory.specs.Lent.{slices, SameSlices}
+use Rattle.directory.proofs.Directory.give.Reads.{Asked as give_asks, Learnt as give_tells}
+use Rattle.directory.proofs.Directory.«open».Reads.{Asked as open_directory_asks, Learnt as open_directory_tells}
+use Rattle.directory.proofs.Directory.take_back.Reads.{Asked as take_back_asks, Learnt as take_back_tells}
 use Rattle.claims.specs.Calls.{Meets, promise_of, Moves}
 use Rattle.claims.specs.Calls.Call.{«open», add, remove, contains, add_list, is_empty, clear, contains_set, equal, get_from_layer, average_ones, first_free, is_sound, rebuild, bitor_assign, bitand_assign, bitxor_assign, start, next, fill, contains_f, is_empty_f, get_from_layer_f, start_f, next_f, fill_f, write, read, map_length, map_capacity, open_directory, give, take_back, iter_r}
 
@@ -166,15 +166,15 @@ map_length_promised = (refl, refl)
 pub map_capacity_promised : (map_capacity_asks ≡ λ κs a. Unit {0}) × (map_capacity_tells ≡ λ κs a z e. Meets (promise_of (map_capacity a.0.now)) z tt)
 map_capacity_promised = (refl, refl)
 
--- ---- the directory: the store comes first, then its owner bytes
+-- ---- the directory: its two slices stay the same two, and what they hold is as promised
 
-pub open_directory_promised : (open_directory_asks ≡ λ κs a. Unit {0}) × (open_directory_tells ≡ λ κs a z e. Meets (promise_of (open_directory (directory a.0.now a.1.0.now) a.1.1.0)) z (directory e.0.now e.1.0.now))
+pub open_directory_promised : (open_directory_asks ≡ λ κs a. Unit {0}) × (open_directory_tells ≡ λ κs a z e. SameSlices a.0.now e.0.now × Meets (promise_of (open_directory (slices a.0.now) a.1.0)) z (slices e.0.now))
 open_directory_promised = (refl, refl)
 
-pub give_promised : (give_asks ≡ λ κs a. Unit {0}) × (give_tells ≡ λ κs a z e. Meets (promise_of (give (directory a.0.now a.1.0.now) a.1.1.0)) z (directory e.0.now e.1.0.now))
+pub give_promised : (give_asks ≡ λ κs a. Unit {0}) × (give_tells ≡ λ κs a z e. SameSlices a.0.now e.0.now × Meets (promise_of (give (slices a.0.now) a.1.0)) z (slices e.0.now))
 give_promised = (refl, refl)
 
-pub take_back_promised : (take_back_asks ≡ λ κs a. Unit {0}) × (take_back_tells ≡ λ κs a z e. Meets (promise_of (take_back (directory a.0.now a.1.0.now) a.1.1.0 a.1.1.1.0)) z (directory e.0.now e.1.0.now))
+pub take_back_promised : (take_back_asks ≡ λ κs a. Unit {0}) × (take_back_tells ≡ λ κs a z e. SameSlices a.0.now e.0.now × Meets (promise_of (take_back (slices a.0.now) a.1.0 a.1.1.0)) z (slices e.0.now))
 take_back_promised = (refl, refl)
 
 -- ---- the reader: where a struct with a reference is taken or handed back, the contract is the function's `spec`, and what it requires is
