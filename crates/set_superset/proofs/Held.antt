@@ -1,38 +1,35 @@
 -- The ids of a list that a store has as members: by what `contains` says of each, and by parts of the list.
-use mathlib.Core.Bool.{Bool, true, false, ◌&&◌}
-use mathlib.Core.List.{List, [], ◌∷◌, ◌++◌}
-use mathlib.Core.Path.{◌≡◌, refl, sym, ap, ◌∙◌}
-use Prim.Native.Nat.{ℕ, suc, ◌<◌}
-use lib.ListN.{length, get_or, drop}
-use lib.Seq.{drop-cons, drop-length}
+use Rattle.std.proofs.Common.{◌≡◌, ℕ, Bool, true, false, ◌&&◌, List, [], ◌∷◌, ◌++◌, Result, Ok, Err, refl, ap, ◌∙◌}
+use mathlib.Core.Bool.{beq}
+use Rattle.std.specs.Result.{result_eq}
+use Rattle.std.specs.List.{list_all}
 use Rattle.util.specs.Outcome.{Settled, settled, settles}
 use Rattle.store.specs.Answer.{asked_paper}
 use Rattle.store.specs.Layout.{is_store}
-use Rattle.store.specs.declared.Asked.{Asked}
-use Rattle.store.specs.declared.Asked.TheVariants.{Is, Refused}
+use Rattle.store.specs.declared.Refusal.{Refusal}
 use Rattle.set_member.specs.Calls.{is_member, contains_of}
 use Rattle.set_superset.specs.Calls.{all_held}
 
 -- the value of an answer; no for a refusal
-abbrev pub said : Asked → Bool
-said (Is b) = b
-said (Refused n) = false
+abbrev pub said : Result Bool Refusal → Bool
+said (Ok b) = b
+said (Err e) = false
 
--- on a store `contains` says whether the id is a member
-pub contains_says : (s : List ℕ) (i : ℕ) → is_store s ≡ true → {r x : Asked} → Settled asked_paper (contains_of s i) r tt → r ≡ x → said x ≡ is_member s i
+-- to be equal to yes is to be yes
+beq_yes : (b : Bool) → beq b true ≡ b
+beq_yes true = refl
+beq_yes false = refl
+
+-- on a store `contains` answers yes exactly where the id is a member
+pub contains_yes : (s : List ℕ) → is_store s ≡ true → (same : Refusal → Refusal → Bool) (i : ℕ) (r : Result Bool Refusal) (b : Bool) → Settled asked_paper (contains_of s i) r tt
+    → b ≡ result_eq beq same r (Ok true) → b ≡ is_member s i
 unfolding contains_of
-contains_says s i h {r} {x} a e =
-    let o : contains_of s i ≡ record { numbers = asked_paper.numbers (Is (is_member s i)); lent = tt } = rw h in
-    ap said (sym e ∙ (settles {r' = Is (is_member s i)} a (settled o)).0)
+contains_yes s h same i r b a e = rw (settles {r' = Ok (is_member s i)} a (settled (rw h))).0 at e ∙ beq_yes (is_member s i)
 
--- a turn of the loop: the id at place k, and those after it
-pub held_turn : (s ids : List ℕ) (k : ℕ) → k < length ids → all_held s (drop k ids) ≡ (is_member s (get_or ids k 0) && all_held s (drop (suc k) ids))
+pub held_all : (s l : List ℕ) → list_all (is_member s) l ≡ all_held s l
 unfolding all_held
-held_turn s ids k h = ap (all_held s) (drop-cons ids k 0 h)
-
-pub held_end : (s ids : List ℕ) (k : ℕ) → k ≡ length ids → all_held s (drop k ids) ≡ true
-unfolding all_held
-held_end s ids k h = ap (all_held s) (ap (λ (x : ℕ). drop x ids) h ∙ drop-length ids)
+held_all s [] = refl
+held_all s (i ∷ l) = ap (λ (b : Bool). is_member s i && b) (held_all s l)
 
 and_assoc : (a b c : Bool) → (a && (b && c)) ≡ ((a && b) && c)
 and_assoc true b c = refl

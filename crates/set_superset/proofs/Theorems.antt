@@ -10,7 +10,7 @@ use Rattle.util.proofs.Same.{both}
 use Rattle.store.specs.Answer.{asked_paper}
 use Rattle.store.specs.Layout.{cap, is_store}
 use Rattle.store.specs.Word.{Member, Sound, Words64}
-use Rattle.store.specs.declared.Asked.TheVariants.{Is}
+use Rattle.std.specs.Prelude.{Ok}
 use Rattle.store.proofs.Geometry.{store_is}
 use Rattle.store.proofs.Members.{members_are}
 use Rattle.set_member.specs.Calls.{is_member}
@@ -39,22 +39,22 @@ held_each s (x ∷ l) =
 -- ---- stores of one capacity, sound or not
 
 module _ (s t : List ℕ) (is : is_store s ≡ true) (it : is_store t ≡ true) (e : cap s ≡ cap t) where
-  yes_held : Settled asked_paper (contains_set_of s t) (Is true) tt ↔ (all_held s (walked t) ≡ true)
+  yes_held : Settled asked_paper (contains_set_of s t) (Ok true) tt ↔ (all_held s (walked t) ≡ true)
   yes_held = (
-    λ y. sym (ap said (settles {r' = Is (all_held s (walked t))} y (said_is (store_is is) (store_is it) (all_held s (walked t)) e refl)).0),
+    λ y. sym (ap said (settles {r' = Ok (all_held s (walked t))} y (said_is (store_is is) (store_is it) (all_held s (walked t)) e refl)).0),
     λ h. said_is (store_is is) (store_is it) true e (sym h),
   )
 
   -- it says yes exactly if every id that a walk of the other store hands out, however it is cut into calls, is a member of this one
   pub contains_walked : Words64 t → (c : Cursor) (q : List Ask) → (walk_on t c q).over ≡ true
-      → Settled asked_paper (contains_set_of s t) (Is true) tt ↔ ((i : ℕ) → Memᴰ i (walk_on t c q).members → Member s i)
+      → Settled asked_paper (contains_set_of s t) (Ok true) tt ↔ ((i : ℕ) → Memᴰ i (walk_on t c q).members → Member s i)
   contains_walked small c q o =
       let h = held_each s (walked t) in
-      subst (λ (l : List ℕ). Settled asked_paper (contains_set_of s t) (Is true) tt ↔ ((i : ℕ) → Memᴰ i l → Member s i)) (sym (walk_defined t it small c q o).0)
+      subst (λ (l : List ℕ). Settled asked_paper (contains_set_of s t) (Ok true) tt ↔ ((i : ℕ) → Memᴰ i l → Member s i)) (sym (walk_defined t it small c q o).0)
       (λ y. h.0 (yes_held.0 y), λ m. yes_held.1 (h.1 m))
 
   -- where the other store is sound: exactly if every member of it is a member of this one
-  pub contains_members : Words64 t → Sound (cap t) t → Settled asked_paper (contains_set_of s t) (Is true) tt ↔ ((i : ℕ) → Member t i → Member s i)
+  pub contains_members : Words64 t → Sound (cap t) t → Settled asked_paper (contains_set_of s t) (Ok true) tt ↔ ((i : ℕ) → Member t i → Member s i)
   contains_members small z =
       let h = held_each s (walked t) in
       let q = ids_members t it small z in (

@@ -1,43 +1,26 @@
-// One set within another: the Rust's `BitSet::contains_set`, by a walk of the other store in batches.
+// One set within another: the Rust's `BitSet::contains_set`, by a walk of the other store.
 #![tactic(auto)]
 
 ghost use Rattle.std.specs.Prelude.{true, ◌≡◌};
 ghost use Rattle.util.specs.Outcome.{Settled};
 ghost use Rattle.store.specs.Answer.{asked_paper};
 ghost use Rattle.store.specs.Layout.{is_store};
-ghost use Rattle.set_member.specs.Calls.{is_member};
 ghost use Rattle.walk_batches.specs.Steps.{walked};
 ghost use Rattle.set_superset.specs.Calls.{all_held, contains_set_of};
 
-use store::Asked;
+use store::Refusal;
 
-// Whether a store has an id as a member.
-fn is_member(store: &[u64], id: u32) -> bool
-    requires { is_store store.now ≡ true }
-    ensures { result ≡ is_member store.now id }
-{
-    match set_member::contains(store, id) {
-        Asked::Is(yes) => yes,
-        Asked::Refused(_) => false,
-    }
-}
-
-// Whether it has all ids of a batch.
+// Whether a store has all ids of a batch as members.
 fn all_held(store: &[u64], ids: &[u32]) -> bool
     requires { is_store store.now ≡ true }
     ensures { result ≡ all_held store.now ids.now }
 {
-    let mut i = 0;
-    while i < ids.len() {
-        if !is_member(store, ids[i]) {
-            return false;
-        }
-        i += 1;
-    }
-    true
+    ids.iter()
+        .all(|id| set_member::contains(store, *id) == Ok(true))
 }
 
-// Whether a store has every id that a walk of the other one hands out, 64 ids at a time.
+// Whether a store has every id that a walk of the other one hands out, 64 ids at a time: by `walk_batches::ids`, one after another, it took
+// three to twelve times as long.
 fn all_walked(store: &[u64], other: &[u64]) -> bool
     requires { (is_store store.now ≡ true) × (is_store other.now ≡ true) }
     ensures { result ≡ all_held store.now (walked other.now) }
@@ -46,12 +29,10 @@ fn all_walked(store: &[u64], other: &[u64]) -> bool
     let mut c = walk_batches::started(other);
     loop {
         let b = walk_fill::fill(c, other, walk_batches::BUDGET, &mut ids);
-        let n = b.count;
-        if !all_held(store, &ids[..n]) {
+        if !all_held(store, &ids[..b.count]) {
             return false;
         }
-        let stop = b.stop;
-        if !walk_batches::goes_on(stop) {
+        if !walk_batches::goes_on(b.stop) {
             return true;
         }
         c = b.cursor;
@@ -59,19 +40,13 @@ fn all_walked(store: &[u64], other: &[u64]) -> bool
 }
 
 // Whether every id that a walk of the other store hands out is a member of this one.
-pub fn contains_set(store: &[u64], other: &[u64]) -> Asked
+pub fn contains_set(store: &[u64], other: &[u64]) -> Result<bool, Refusal>
     ensures { Settled asked_paper (contains_set_of store.now other.now) result tt }
 {
-    let n = store::capacity(store);
-    if n == 0 {
-        return Asked::Refused(2);
-    }
-    let m = store::capacity(other);
-    if m == 0 {
-        return Asked::Refused(2);
-    }
+    let n = store::capacity(store)?;
+    let m = store::capacity(other)?;
     if n != m {
-        return Asked::Refused(5);
+        return Err(Refusal::Capacities);
     }
-    Asked::Is(all_walked(store, other))
+    Ok(all_walked(store, other))
 }
