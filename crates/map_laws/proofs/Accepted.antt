@@ -1,15 +1,8 @@
 -- The words of an accepted map: no bit at or past N, and their map is the bytes that were read.
-use mathlib.Core.Bool.{true}
-use mathlib.Core.List.{List, [], ◌∷◌, ◌++◌, append_assoc, append-nil}
-use mathlib.Core.Logic.{◌≢◌}
-use mathlib.Core.Path.{◌≡◌, refl, sym, ap, ap₂, ◌∙◌, subst}
-use Prim.Native.Nat.{ℕ, zero, suc, ◌+◌, ◌-◌, ◌*◌, ◌^◌, ◌≤◌, ◌<◌}
+use Rattle.std.proofs.Common.{true, List, [], ◌∷◌, ◌++◌, append_assoc, append-nil, ◌≢◌, ◌≡◌, refl, sym, ap, ap₂, ◌∙◌, subst, ℕ, zero, suc, ◌+◌, ◌-◌, ◌*◌, ◌^◌, ◌≤◌, ◌<◌, arith, ne_eqb, length, get_or, set, take, drop, replicate, length-append, length-set, length-drop, pow_pos, take-add, get_or-drop, get_or-set_same, get_or-set_other}
 use native.Mathlib.Decide.{dec_lt, ℕ_discrete}
-use native.Mathlib.Omega.{arith}
-use borrow.Author.Tests.{ne_eqb}
-use lib.ListN.{length, get_or, set, take, drop, replicate, length-append, length-replicate, length-set, length-drop, replicate-append-replicate, get_or-replicate, get_or-eq_default}
-use lib.Pow.{pow_pos}
-use lib.Seq.{set_at, take-add, get_or-drop, get_or-set_same, get_or-set_other}
+use lib.ListN.{length-replicate, replicate-append-replicate, get_or-replicate, get_or-eq_default}
+use lib.Seq.{set_at}
 use Rattle.util.specs.Word.{count}
 use Rattle.util.proofs.Same.{both}
 use Rattle.store.specs.Build.{room0, Kept}

@@ -1,14 +1,7 @@
 -- THE LENGTH AND THE CAPACITY, ASKED FOR: what they say of the writer and of the reader.
-use mathlib.Core.Bool.{Bool, true, false, cond}
-use mathlib.Core.List.{List, [], ◌∷◌}
-use mathlib.Core.Logic.{◌≢◌, ◌↔◌}
-use mathlib.Core.Path.{◌≡◌, refl, sym, ap, ◌∙◌}
-use Prim.Native.Nat.{ℕ, ◌≤◌, ◌<◌}
+use Rattle.std.proofs.Common.{Bool, true, false, cond, List, [], ◌∷◌, ◌≢◌, ◌↔◌, ◌≡◌, refl, sym, ap, ◌∙◌, ℕ, ◌≤◌, ◌<◌, arith, eqb, length, get_or, drop}
 use native.Mathlib.Decide.{dec_lt, ℕ_discrete}
-use native.Mathlib.Omega.{arith}
 use borrow.Author.Tests.{lt-leb}
-use lib.Dec.{eqb}
-use lib.ListN.{length, get_or, drop}
 use Rattle.util.specs.Outcome.{Outcome}
 use Rattle.store.specs.Answer.{gives, refuses, refusal_number, value_of}
 use Rattle.store.specs.Layout.{cap, is_store, StoreOf}

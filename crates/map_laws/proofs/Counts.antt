@@ -1,12 +1,7 @@
 -- THE HEADER'S COUNT is the number of members, whether the store is sound or not.
-use mathlib.Core.List.{List, [], ◌∷◌, ◌++◌, append-nil}
-use mathlib.Core.Path.{◌≡◌, refl, sym, ap, ◌∙◌, subst}
-use Prim.Native.Nat.{ℕ, zero, suc, ◌+◌, ◌-◌, ◌/◌, ◌%◌, ◌^◌, ◌≤◌, ◌<◌, min}
+use Rattle.std.proofs.Common.{List, [], ◌∷◌, ◌++◌, append-nil, ◌≡◌, refl, sym, ap, ◌∙◌, subst, ℕ, zero, suc, ◌+◌, ◌-◌, ◌/◌, ◌%◌, ◌^◌, ◌≤◌, ◌<◌, min, arith, length, get_or, take, take-suc, take_all}
 use native.Mathlib.Decide.{ℕ_discrete}
-use native.Mathlib.Omega.{arith}
 use lib.Count.{ones_in}
-use lib.ListN.{length, get_or, take}
-use lib.Seq.{take-suc, take_all}
 use Rattle.util.specs.Word.{bit, count, places}
 use Rattle.util.proofs.Bits.{bit_high}
 use Rattle.util.proofs.Places.{places-append, places_none, length-bits_in}

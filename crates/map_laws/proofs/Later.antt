@@ -1,12 +1,6 @@
 -- LATER BYTES: "the reader ignores later bytes, the chunk's padding", in its refusals too.
-use mathlib.Core.Bool.{Bool, ◌&&◌}
-use mathlib.Core.List.{List, ◌++◌}
-use mathlib.Core.Path.{◌≡◌, refl, sym, ap, ap₂, ◌∙◌}
-use Prim.Native.Nat.{ℕ, zero, suc, ◌+◌, ◌*◌, ◌≤◌}
-use native.Mathlib.Omega.{arith}
-use borrow.Author.Tests.{le-leb}
-use lib.ListN.{length, set, take, drop, length-append, length-drop, take-append-drop}
-use lib.Seq.{take-append-le, drop-append-le, length-take-le}
+use Rattle.std.proofs.Common.{Bool, ◌&&◌, List, ◌++◌, ◌≡◌, refl, sym, ap, ap₂, ◌∙◌, ℕ, zero, suc, ◌+◌, ◌*◌, ◌≤◌, arith, le-leb, length, set, take, drop, length-append, length-drop, take-append-drop, length-take-le}
+use lib.Seq.{take-append-le, drop-append-le}
 use Rattle.util.specs.Word.{count}
 use Rattle.store.specs.Layout.{cap}
 use Rattle.map_format.specs.Bytes.{num, num_at}

@@ -1,11 +1,6 @@
 -- The store that a map's words make: sound, and with the members of the store that was written, sound or not.
-use mathlib.Core.List.{List}
-use mathlib.Core.Path.{◌≡◌, sym, ap, ◌∙◌, subst}
-use Prim.Native.Nat.{ℕ, suc, ◌+◌, ◌-◌, ◌/◌, ◌%◌, ◌^◌, ◌<◌}
-use native.Mathlib.Omega.{arith}
-use lib.ListN.{length, get_or, length-drop}
+use Rattle.std.proofs.Common.{List, ◌≡◌, sym, ap, ◌∙◌, subst, ℕ, suc, ◌+◌, ◌-◌, ◌/◌, ◌%◌, ◌^◌, ◌<◌, arith, length, get_or, length-drop, get_or-drop}
 use lib.Pow.{field, mod-mod-pow}
-use lib.Seq.{get_or-drop}
 use Rattle.util.specs.Word.{bit, places}
 use Rattle.util.proofs.Places.{places_same}
 use Rattle.store.specs.Build.{build, layer0, room0, Kept}

@@ -1,13 +1,7 @@
 -- THE CHUNK MAP: what is written is read back, what is read is written back, and which bytes are accepted.
-use mathlib.Core.List.{List, [], ◌∷◌, ◌++◌, append-nil}
-use mathlib.Core.Logic.{◌↔◌}
-use mathlib.Core.Path.{◌≡◌, sym, ap, ◌∙◌, subst}
-use Prim.Native.Nat.{ℕ, ◌+◌, ◌*◌, ◌^◌, ◌≤◌, ◌<◌}
+use Rattle.std.proofs.Common.{List, [], ◌∷◌, ◌++◌, append-nil, ◌↔◌, ◌≡◌, sym, ap, ◌∙◌, subst, ℕ, ◌+◌, ◌*◌, ◌^◌, ◌≤◌, ◌<◌, arith, le-leb, ne_eqb, length, get_or, take, drop, take-append-drop, take_at}
 use native.Mathlib.Decide.{ℕ_discrete}
-use native.Mathlib.Omega.{arith}
-use borrow.Author.Tests.{le-leb, ne_eqb}
-use lib.ListN.{length, get_or, take, drop, take-append-drop}
-use lib.Seq.{sets, sets-eq, take_at}
+use lib.Seq.{sets, sets-eq}
 use Rattle.util.specs.Outcome.{Outcome}
 use Rattle.store.specs.Answer.{gives, does, refuses}
 use Rattle.store.specs.Build.{build, layer0, room0}

@@ -1,16 +1,8 @@
 -- The map of words with no bit at or past N is accepted, and its table gives those words.
-use mathlib.Core.Bool.{Bool, true, ◌&&◌}
-use mathlib.Core.List.{List, [], ◌∷◌, ◌++◌, append_assoc}
-use mathlib.Core.Logic.{◌≢◌}
-use mathlib.Core.Path.{◌≡◌, refl, sym, ap, ap₂, ◌∙◌, subst}
-use Prim.Native.Nat.{ℕ, zero, suc, ◌+◌, ◌*◌, ◌^◌, ◌≤◌, ◌<◌}
+use Rattle.std.proofs.Common.{Bool, true, ◌&&◌, List, [], ◌∷◌, ◌++◌, append_assoc, ◌≢◌, ◌≡◌, refl, sym, ap, ap₂, ◌∙◌, subst, ℕ, zero, suc, ◌+◌, ◌*◌, ◌^◌, ◌≤◌, ◌<◌, arith, le-leb, eq-eqb, ne_eqb, length, get_or, set, drop, replicate, length-append, pow_mono, drop_at}
 use native.Mathlib.Decide.{ℕ_discrete}
-use native.Mathlib.Omega.{arith}
-use borrow.Author.Tests.{le-leb, eq-eqb, ne_eqb}
 use lib.Count.{ones_in}
-use lib.ListN.{length, get_or, set, drop, replicate, length-append}
-use lib.Pow.{pow_mono}
-use lib.Seq.{drop_at, set_at}
+use lib.Seq.{set_at}
 use Rattle.util.specs.Word.{count}
 use Rattle.store.specs.Build.{room0}
 use Rattle.store.specs.Layout.{max_cap, is_cap, words, room, layer_len}

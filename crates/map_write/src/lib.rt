@@ -91,6 +91,7 @@ struct Told<'a> {
 
 impl<'a> Told<'a> {
     // What the map of a store tells of. Layer 0 alone is read, so it is right on an unsound store too.
+    #[tactic(auto, using(store::proofs::Inside::tested_start))]
     fn of(store: &'a [u64]) -> Result<Told<'a>, Refusal>
         ensures { MatchResult result (λ t. Tells store.now t) (λ e. NoStoreHere store.now e) }
     {

@@ -1,5 +1,3 @@
-use Rattle.std.proofs.Common.{List, ℕ, take_all, subst}
-use Rattle.map_write.specs.Steps.{Entered}
 use Rattle.map_write.proofs.Entries.{entered_none, step_room, step_more}
 use Rattle.map_write.proofs.Draft.put_all.Goals as goal
 
@@ -11,6 +9,3 @@ put-requires c = step_room c.args.words.now c.loop-i.i c.loop-i.invariant c.loop
 
 pub loop-i-preserved : goal.loop-i-preserved
 loop-i-preserved c = step_more c.args.words.now c.loop-i.i c.loop-i.invariant c.loop-i-test.true c.put.ensures
-
-pub returns : goal.returns
-returns c = subst (λ (l : List ℕ). Entered c.args.q l c.args.self.now c.loop-i.self) (take_all c.loop-i.i c.args.words.now c.loop-i-test.false) c.loop-i.invariant

@@ -1,6 +1,3 @@
-use Rattle.std.proofs.Common.{List, ℕ, take_all, subst}
-use Rattle.std.specs.List.{concat}
-use Rattle.map_write.specs.Steps.{Entered}
 use Rattle.map_write.proofs.Entries.{entered_none, four_room, four_more, entered_four}
 use Rattle.map_write.proofs.Draft.put_fours.Goals.{then-four-ne0, else-four-ne0}
 use Rattle.map_write.proofs.Draft.put_fours.Goals as goal
@@ -15,6 +12,3 @@ pub loop-k-preserved : goal.loop-k-preserved
 loop-k-preserved c =
     four_more c.args.fours.now c.told-fours c.loop-k.k c.loop-k.invariant c.loop-k-test.true
     (elim c.if-four-ne0.branch [ then-four-ne0 w ↦ rw w.self-is w.put_all.ensures | else-four-ne0 w ↦ rw w.self-is (entered_four _ (c.told-fours c.loop-k.k c.loop-k-test.true) w.if-four-ne0.false) ])
-
-pub returns : goal.returns
-returns c = subst (λ (l : List (List ℕ)). Entered 0 (concat l) c.args.self.now c.loop-k.self) (take_all c.loop-k.k c.args.fours.now c.loop-k-test.false) c.loop-k.invariant
