@@ -2,17 +2,20 @@
 use mathlib.Core.Bool.{Bool, true, false, cond, ◌&&◌}
 use mathlib.Core.List.{List, [], ◌∷◌, map}
 use mathlib.Core.Logic.{◌≢◌}
-use mathlib.Core.Path.{◌≡◌, refl, subst}
+use mathlib.Core.Path.{◌≡◌, refl, ◌∙◌, subst}
 use Prim.Native.Nat.{ℕ, zero, suc, ◌≤◌, min}
 use native.Mathlib.Omega.{arith}
 use borrow.Author.Tests.{eqb-true, eqb-false}
 use lib.Dec.{leb, eqb}
 use lib.ListN.{length}
+use Rattle.std.proofs.lemmas.List.{length-map}
 use Rattle.util.proofs.Same.{both}
 use Rattle.store.specs.Layout.{store_len, cap, is_store, StoreOf}
 use Rattle.store.proofs.Geometry.{store_is}
 use Rattle.formula_codes.specs.Check.{beside_of, sooner, stores_of, check_of}
 use Rattle.formula_codes.specs.Codes.{left, is_formula}
+use Rattle.formula_codes.specs.Formula.{slices}
+use Rattle.formula_codes.specs.declared.Formula.{Formula}
 use Rattle.formula_codes.specs.Tree.{four, nth}
 
 -- a slice beside a store of capacity N: a store of that capacity where it is lent, and in no case longer
@@ -149,3 +152,10 @@ accepted_first ss cs e = stores_first ss (go _ (eqb (stores_of ss) 0) refl e)
     go : (m : ℕ) (x : Bool) → eqb (stores_of ss) 0 ≡ x → cond x m (stores_of ss) ≡ 0 → stores_of ss ≡ 0
     go m true p e = eqb-true (stores_of ss) 0 p
     go m false p e = e
+
+-- each slice of an accepted formula fits beside store 0
+pub lent_beside : (f : Formula) → length f.stores ≡ 4 → check_of (slices f) f.codes.now ≡ 0 → (x : ℕ) → Beside (cap (nth (slices f) 0)) (nth (slices f) x)
+lent_beside f l e x =
+    let ss = slices f in
+    let q = four_slices ss (length-map f.stores (λ s. s.now) ∙ l) in
+    rw q ((accepted (nth ss 0) (nth ss 1) (nth ss 2) (nth ss 3) f.codes.now (rw q at e)).beside x)

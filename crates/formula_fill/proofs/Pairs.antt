@@ -5,20 +5,25 @@ use Prim.Native.Nat.{ℕ, ◌<◌}
 use native.Mathlib.Decide.{ℕ_discrete, dec_lt}
 use native.Mathlib.Omega.{arith}
 use borrow.Author.Tests.{lt-ltb}
-use lib.ListN.{get_or}
+use lib.ListN.{length, get_or}
 use Rattle.store.specs.Layout.{top_most, layer_len, cap, is_store, is_cap}
-use Rattle.store.specs.Word.{word}
+use Rattle.store.specs.Word.{layer_at, word}
+use Rattle.store.proofs.Geometry.{is_store_lem}
 use Rattle.store.proofs.Words.{word_in, word_out}
 use Rattle.set_layers.specs.Calls.{layer_part}
-use Rattle.walk.proofs.Answers.{lent_words}
 use Rattle.formula_codes.specs.Codes.{code_kind, trees, tree_of}
-use Rattle.formula_codes.specs.Tree.{joined, four, nth, value, tree_word}
-use Rattle.formula_codes.proofs.Accepted.{Accepted, Beside}
-use Rattle.formula_word.proofs.Arms.{three}
+use Rattle.formula_codes.specs.Tree.{joined, nth, value, tree_word}
+use Rattle.formula_codes.proofs.Accepted.{Beside}
 use Rattle.formula_ask.specs.Calls.{formula_words}
 use Rattle.formula_pair.specs.Pair.{pair_words}
-use Rattle.formula_pair.proofs.Pairs.{three_parts}
 use Rattle.formula_pair_codes.specs.Pairs.{Pair}
+
+three : (cs : List ℕ) → length cs ≡ 3 → cs ≡ get_or cs 0 0 ∷ get_or cs 1 0 ∷ get_or cs 2 0 ∷ []
+three [] h = absurd (omega arith)
+three (a ∷ []) h = absurd (omega arith)
+three (a ∷ b ∷ []) h = absurd (omega arith)
+three (a ∷ b ∷ c ∷ []) h = refl
+three (a ∷ b ∷ c ∷ d ∷ cs) h = absurd (omega arith)
 
 -- ---- the words of a slice
 
@@ -32,11 +37,11 @@ word_none N k i = go (dec_lt i (layer_len N k))
 
 -- a slice beside store 0 has in its layers the words that the formula reads
 beside_words : {N : ℕ} (s : List ℕ) → Beside N s → (k i : ℕ) → k < top_most → get_or (layer_part s k) i 0 ≡ word N s k i
-unfolding layer_part is_store is_cap
+unfolding layer_part word is_store is_cap
 beside_words {N} [] b k i h = sym (word_none N k i)
 beside_words (x ∷ s) b k i h =
     let z = b.lent (λ e. omega (arith, e)) in
-    sym (three_parts (x ∷ s) refl refl refl k i h) ∙ lent_words z refl refl refl k i h
+    ap (λ (l : List ℕ). get_or l i 0) (rw (is_store_lem z) (ap (λ (n : ℕ). layer_at n (x ∷ s) k) z.names))
 
 -- ---- the words of a pair
 
@@ -60,11 +65,10 @@ pair_tree ss cs N k i p = ap (λ (x : List ℕ). tree_word N ss (tree_of x) k i)
     go (no n) (no o) = let q : e ≡ 18 = omega (arith, p.joins, p.known) in rw (lt-ltb c 4 p.first, lt-ltb d 4 p.second, q)
 
 -- where nothing is refused, the words of the two stores, joined, are the formula's
-pub pair_words_lem : (a b c d cs : List ℕ) → Accepted a b c d cs → Pair cs → (k i : ℕ) → k < top_most
-    → pair_words (get_or cs 2 0) (nth (four a b c d) (get_or cs 0 0)) (nth (four a b c d) (get_or cs 1 0)) k i ≡ formula_words (four a b c d) cs k i
-pair_words_lem a b c d cs g p k i h =
-    let ss = four a b c d in
+pub pair_words_lem : (ss : List (List ℕ)) (cs : List ℕ) → ((x : ℕ) → Beside (cap (nth ss 0)) (nth ss x)) → Pair cs → (k i : ℕ) → k < top_most
+    → pair_words (get_or cs 2 0) (nth ss (get_or cs 0 0)) (nth ss (get_or cs 1 0)) k i ≡ formula_words ss cs k i
+pair_words_lem ss cs beside p k i h =
     ap₂ (joined (get_or cs 2 0) k)
-    (beside_words (nth ss (get_or cs 0 0)) (g.beside (get_or cs 0 0)) k i h)
-    (beside_words (nth ss (get_or cs 1 0)) (g.beside (get_or cs 1 0)) k i h)
-    ∙ sym (pair_tree ss cs (cap a) k i p)
+    (beside_words (nth ss (get_or cs 0 0)) (beside (get_or cs 0 0)) k i h)
+    (beside_words (nth ss (get_or cs 1 0)) (beside (get_or cs 1 0)) k i h)
+    ∙ sym (pair_tree ss cs (cap (nth ss 0)) k i p)

@@ -53,13 +53,16 @@ module _ (f : Formula) where
         let r : refusal_in ss cs k ≡ check_of ss cs = rw (ne_eqb (check_of ss cs) 0 p.0) in
         rw (r, p.1) (p.0, refl)
 
-    pub check_cursor : {n : ℕ} → Ok n ≡ sized ss (check_of ss cs) → (q : Result Ready Refusal) → Checked (refusal_of n (fits (top n) k)) k q → Checked (refusal_in ss cs k) k q
+    -- past the formula's refusals it is that of the cursor, on the capacity
+    pub refusal_same : {n : ℕ} → Ok n ≡ sized ss (check_of ss cs) → refusal_in ss cs k ≡ refusal_of n (fits (top n) k)
     unfolding refusal_in refusal_of
-    check_cursor {n} e q h =
+    refusal_same {n} e =
         let z = sized_passed ss (check_of ss cs) e in
         let some : n ≢ 0 = λ q. omega (arith, q, z.1, (accepted_first ss cs z.0).some) in
-        let r : refusal_in ss cs k ≡ refusal_of n (fits (top n) k) = rw (z.0, ← z.1, ne_eqb n 0 some) in
-        rw r h
+        rw (z.0, ← z.1, ne_eqb n 0 some)
+
+    pub check_cursor : {n : ℕ} → Ok n ≡ sized ss (check_of ss cs) → (q : Result Ready Refusal) → Checked (refusal_of n (fits (top n) k)) k q → Checked (refusal_in ss cs k) k q
+    check_cursor e q h = rw (refusal_same e) h
 
   -- ---- the start
 
