@@ -1,7 +1,7 @@
 // The walk of one store: the Rust's iter/mod.rs, `BitIter`, as a cursor by value whose calls hand it back.
 #![tactic(auto)]
 
-ghost use Rattle.std.specs.Prelude.{true, [], ◌∷◌, ◌≡◌, ℕ, suc, ◌+◌, ◌-◌, ◌%◌, ◌<◌, get_or};
+ghost use Rattle.std.specs.Prelude.{◌≡◌, ℕ, suc, ◌+◌, ◌%◌, ◌<◌, get_or};
 ghost use Rattle.util.specs.Outcome.{Settled};
 ghost use Rattle.store.specs.Layout.{top, top_most};
 ghost use Rattle.walk.specs.Calls.{step_paper, start_of, next_of, fits};
@@ -72,11 +72,8 @@ impl Cursor {
     pub fn hand(self) -> Cursor
         ensures { result ≡ handed self }
     {
-        let prefix = self.prefix;
-        Cursor {
-            masks: walk_masks::without(self.masks, 0),
-            prefix,
-        }
+        let masks = walk_masks::without(self.masks, 0);
+        Cursor { masks, ..self }
     }
 
     // The lowest bit of the layer above layer j is taken, and the word below it, of layer j, is in hand. Layers count modulo the top one.

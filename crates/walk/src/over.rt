@@ -1,6 +1,6 @@
 // The walk over any words: how words are read is a trait, and the three layers of one store are its first instance.
 
-ghost use Rattle.std.specs.Prelude.{true, ◌≡◌, ℕ, ◌+◌, ◌-◌, ◌<◌, get_or};
+ghost use Rattle.std.specs.Prelude.{true, ◌≡◌, ℕ, ◌-◌};
 ghost use Rattle.store.specs.Layout.{top_most};
 ghost use Rattle.walk.specs.Calls.{Fine};
 ghost use Rattle.walk.specs.Steps.{is_reading, Lowers, Sinks};

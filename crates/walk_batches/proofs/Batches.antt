@@ -54,7 +54,7 @@ pub record Turn (t : List ℕ) (b : ℕ) (c : Cursor) (r : Batch) (out : List �
   pub over : r.stop ≡ End → ahead t r.cursor ≡ []
 
 -- no more ids than places
-inside_of : {b m n r : ℕ} {e : Stop} → Stopped b m e n r → n ≤ m
+pub inside_of : {b m n r : ℕ} {e : Stop} → Stopped b m e n r → n ≤ m
 inside_of (full h) = omega arith
 inside_of (paused h) = h
 inside_of (ended h g) = h

@@ -1,6 +1,5 @@
--- One step of a walk over the layers 0 to 2 and a top word, by what its cursor has still to hand out.
-use Rattle.std.proofs.Common.{◌≡◌, ℕ, zero, suc, ◌^◌, ◌<◌, ◌≤◌, List, [], ◌∷◌, ◌++◌, ◌⊎◌, refl, sym, ap, subst, ◌∙◌, arith}
-use mathlib.Core.Logic.{⊎_elim}
+-- The ids that a walk hands out from its start on, batch by batch, by what its cursor has still to hand out.
+use Rattle.std.proofs.Common.{◌≡◌, ℕ, zero, suc, ◌+◌, ◌^◌, ◌<◌, ◌≤◌, List, [], ◌∷◌, ◌++◌, length, take, drop, refl, sym, ap, ap₂, subst, ◌∙◌, arith, drop-cons, get_or-take, length-take}
 use Rattle.std.specs.Prelude.{Bool, true, false, cond, slice_index}
 use Rattle.std.specs.Borrow.{Bor}
 use Rattle.store.specs.Layout.{top_most, top, cap, is_store}
@@ -9,38 +8,39 @@ use Rattle.store.proofs.Geometry.{store_is}
 use Rattle.store.proofs.TopLayer.{top_is}
 use Rattle.store.proofs.Words.{word_lt}
 use Rattle.set_layers.specs.Calls.{layer_part}
-use Rattle.store.specs.declared.Refusal.{Refusal}
 use Rattle.walk.specs.Calls.{Fine, refused, start_in}
 use Rattle.walk.specs.Layers.{layer_words, LayersOf}
-use Rattle.walk.specs.Walk.{start_at, next}
+use Rattle.walk.specs.Walk.{start_at}
 use Rattle.walk.specs.declared.Cursor.{Cursor}
-use Rattle.walk.specs.declared.Next.{Next}
-use Rattle.walk.specs.declared.Next.TheVariants.{Member, Paused, End, Refused}
-use Rattle.walk.specs.declared.Step.{Step}
+use Rattle.walk.specs.declared.Next.TheVariants.{Paused, End}
 use Rattle.walk.specs.declared.over.Layers.{Layers}
 use Rattle.walk_laws.specs.Rest.{Wf, rest, cost}
-use Rattle.walk_laws.specs.Walks.{Bounded, KeptBudget}
+use Rattle.walk_laws.specs.Walks.{Bounded}
 use Rattle.walk_laws.specs.Walks.KeptBudget.{paused}
-use Rattle.walk_laws.proofs.Fills.{next_kept}
-use Rattle.walk_laws.proofs.Prefixes.{next_fine}
+use Rattle.walk_fill.specs.Fill.{batch_paper, batch, filled, fill_from}
+use Rattle.walk_fill.specs.declared.Batch.{Batch}
+use Rattle.util.specs.Outcome.{Settled, settles}
+use Rattle.walk_laws.proofs.Fills.{fill_moved}
 use Rattle.walk.proofs.Answers.{lent_words}
 use Rattle.walk_laws.specs.Under.{all_ids}
-use Rattle.walk_laws.proofs.Rest.{gone, MovedOn, moved_next, rest_empty, start_rest}
+use Rattle.walk_laws.proofs.Rest.{rest_empty, start_rest}
 use Rattle.walk_laws.proofs.Same.{rest_same}
 use Rattle.walk_laws.proofs.Taken.{start_wf, start_fine}
+use Rattle.std.proofs.lemmas.Bool.{true≢false}
+use Rattle.std.proofs.lemmas.List.{drop-take}
+use Rattle.std.proofs.Math.Seq.{take-append_seam}
+use Rattle.walk_fill.specs.declared.Stop.{Stop}
+use Rattle.walk_fill.specs.declared.Stop.TheVariants.{End}
+use Rattle.walk_laws.specs.Calls.{Stopped}
+use Rattle.walk_laws.specs.Calls.Stopped.{full, paused, ended}
+use Rattle.walk_batches.proofs.Batches.{inside_of}
 use Rattle.walk_batches.specs.Calls.{started_of}
 use Rattle.std.specs.Iterator.{YieldsFirst}
 use Rattle.std.proofs.lemmas.Iterator.{YieldsList}
 use Rattle.std.proofs.lemmas.Iterator.Consumers.{YieldsList-from_first}
 use Rattle.walk_batches.specs.Ids.{ids_left, ids_of}
 use Rattle.walk_batches.specs.declared.each.Ids.{Ids}
-use Rattle.walk_batches.specs.Steps.{walked}
-
-spent : {b r : ℕ} → KeptBudget b Paused r → r ≡ b
-spent paused = refl
-
-never : {b r : ℕ} {e : Refusal} → KeptBudget b (Refused e) r → ⊥
-never k = elim k [ ]
+use Rattle.walk_batches.specs.Steps.{walked, goes_on}
 
 module _ (lw : ℕ → ℕ → ℕ) where
   abbrev pub left : Cursor → List ℕ
@@ -48,34 +48,6 @@ module _ (lw : ℕ → ℕ → ℕ) where
 
   abbrev pub to_read : Cursor → ℕ
   to_read c = cost lw top_most c (suc top_most)
-
-  module _ (bounded : Bounded lw) (c : Cursor) (wf : Wf top_most c) (b : ℕ) {a : Step} (is : a ≡ next lw top_most b c) where
-    moved : MovedOn lw top_most c a
-    moved = subst (MovedOn lw top_most c) (sym is) (moved_next lw bounded top_most b c wf)
-
-    kept : {o : Next} → a.answer ≡ o → KeptBudget b o a.reads
-    kept e = subst (λ (x : Next). KeptBudget b x a.reads) e (subst (λ (x : Step). KeptBudget b x.answer x.reads) (sym is) (next_kept lw top_most b c))
-
-    pub step_wf : Wf top_most a.cursor
-    step_wf = moved.wf
-
-    pub step_fine : Fine top_most c.prefix → Fine top_most a.cursor.prefix
-    step_fine f = subst (λ (x : Step). Fine top_most x.cursor.prefix) (sym is) (next_fine lw bounded top_most b c wf f)
-
-    handed_on : {o : Next} → a.answer ≡ o → left c ≡ gone o ++ left a.cursor
-    handed_on e = moved.moves.ids ∙ ap (λ (x : Next). gone x ++ left a.cursor) e
-
-    pub step_member : {v : ℕ} → a.answer ≡ Member v → left c ≡ v ∷ left a.cursor
-    step_member e = handed_on e
-
-    pub step_paused : a.answer ≡ Paused → 1 ≤ b → (left c ≡ left a.cursor) × (to_read a.cursor < to_read c)
-    step_paused e h = (handed_on e, omega (arith, moved.moves.count, spent (kept e)))
-
-    -- no step of it is refused
-    pub step_ended : (a.answer ≡ End) ⊎ ((e : Refusal) × (a.answer ≡ Refused e)) → (left c ≡ []) × (left a.cursor ≡ [])
-    step_ended =
-        ⊎_elim (λ (e : a.answer ≡ End). let z = (moved.ended e).0 in (handed_on e ∙ z, z))
-        (λ (e : (x : Refusal) × (a.answer ≡ Refused x)). absurd (never (kept e.1)))
 
 -- ---- the start
 
@@ -149,3 +121,49 @@ module _ (s : List ℕ) (i : Ids) (is : is_store s ≡ true) (left_is : ids_left
   -- and the iterator gives them, for a chain over it
   pub ids_yielded : YieldsList (YieldsFirst ids_left) (λ x. x) i (walked s)
   ids_yielded = YieldsList-from_first (λ x. x) ids_left (walked s) ids_walked
+
+-- ---- a batch
+
+-- all of it are handed out, or the next one is at its place
+pub none_kept : (xs : List ℕ) (i n : ℕ) → i ≡ n → drop i (take n xs) ≡ []
+none_kept xs i n e = let z : n ≡ i + 0 = omega (arith, e) in ap (λ (m : ℕ). drop i (take m xs)) z ∙ drop-take i 0 xs
+
+pub one_kept : (xs : List ℕ) (i n : ℕ) → i < n → n ≤ length xs → drop i (take n xs) ≡ slice_index xs i ∷ drop (i + 1) (take n xs)
+one_kept xs i n h l =
+    let s : suc i ≡ i + 1 = omega arith in
+    drop-cons (take n xs) i 0 (simp length-take (omega arith))
+    ∙ ap₂ (λ (v m : ℕ). v ∷ drop m (take n xs)) (get_or-take n xs i 0 h) s
+
+last : {b m k q : ℕ} {o : Stop} → Stopped b m o k q → goes_on o ≡ false → o ≡ End
+last (full x) e = absurd (true≢false e)
+last (paused x) e = absurd (true≢false e)
+last (ended x y) e = refl
+
+idle : {b m k q : ℕ} {o : Stop} → 1 ≤ m → Stopped b m o k q → k ≡ 0 → goes_on o ≡ true → q ≡ b
+idle h (full x) z e = absurd (omega arith)
+idle h (paused x) z e = refl
+idle h (ended x y) z e = absurd (true≢false (sym e))
+
+-- what a fill of 64 places answered, and left in them
+pub record Turned (lw : ℕ → ℕ → ℕ) (c : Cursor) (r : Batch) (out : List ℕ) : Type 0 where
+  pub ids : left lw c ≡ take r.count out ++ left lw r.cursor
+  pub most : r.count ≤ 64
+  pub wf : Wf top_most r.cursor
+  pub fine : Fine top_most r.cursor.prefix
+  pub over : goes_on r.stop ≡ false → left lw r.cursor ≡ []
+  pub less : r.count ≡ 0 → goes_on r.stop ≡ true → to_read lw r.cursor < to_read lw c
+
+pub turned : (lw : ℕ → ℕ → ℕ) → Bounded lw → {c : Cursor} → Wf top_most c → Fine top_most c.prefix → (b : ℕ) → 1 ≤ b → (ids : List ℕ) {out : List ℕ} {r : Batch}
+    → length ids ≡ 64 → Settled batch_paper (filled (fill_from lw top_most (length ids) b c) ids) r out → Turned lw c r out
+turned lw bounded {c} wf fine b some ids {out} {r} long a =
+    let f = fill_from lw top_most (length ids) b c in
+    let z = settles {r' = batch f} a (record { answer = refl; memory = refl }) in
+    let m = fill_moved lw bounded top_most (length ids) b c wf in
+    subst (λ (x : Batch). Turned lw c x out) (sym z.0) (subst (Turned lw c (batch f)) (sym z.1) (record {
+      ids = m.moves.ids ∙ ap (λ (x : List ℕ). x ++ left lw f.cursor) (sym (take-append_seam f.ids (drop (length f.ids) ids)));
+      most = omega (arith, inside_of m.kept, long);
+      wf = m.wf;
+      fine = m.fine fine;
+      over = λ e. (m.over (last m.kept e)).0;
+      less = λ e g. omega (arith, idle (omega (arith, long)) m.kept e g, m.moves.count);
+    }))

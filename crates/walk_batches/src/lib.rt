@@ -18,13 +18,11 @@ use walk_fill::Stop;
 pub fn started(store: &[u64]) -> Cursor
     ensures { result ≡ started_of store.now }
 {
-    let none = Cursor {
-        masks: [0; store::LAYERS],
-        prefix: [0; store::TOP],
-    };
-    let s = none.start(store);
-    s.cursor
+    walk::above(0).start(store).cursor
 }
+
+// How many ids a walk hands out in one batch.
+pub const BATCH: usize = 64;
 
 // The largest budget of word reads; a walk that had spent it would go on with the next batch.
 pub const BUDGET: u64 = u64::MAX;
@@ -33,12 +31,7 @@ pub const BUDGET: u64 = u64::MAX;
 pub fn goes_on(stop: Stop) -> bool
     ensures { result ≡ goes_on stop }
 {
-    match stop {
-        Stop::Full => true,
-        Stop::Paused => true,
-        Stop::End => false,
-        Stop::Refused(_) => false,
-    }
+    matches!(stop, Stop::Full | Stop::Paused)
 }
 
 // The ids that a walk of a store hands out, one after another; none where the slice is no store.
@@ -51,5 +44,8 @@ pub fn ids(store: &[u64]) -> Ids<'_>
         ready: Ready {
             cursor: started(store),
         },
+        batch: [0; BATCH],
+        at: 0,
+        count: 0,
     }
 }

@@ -23,26 +23,28 @@ pub struct Told {
 }
 
 // A reader that is started: the store, and the cursor that `start` leaves of a zero cursor.
-pub fn iter<'a>(store: &'a [u64]) -> BitIter<'a>
+pub fn iter(store: &[u64]) -> BitIter<'_>
     ensures { (result.store ≡ store.entry) × (result.cursor ≡ started_of store.now) }
 {
-    let cursor = walk_batches::started(store);
-    BitIter { store, cursor }
+    BitIter {
+        store,
+        cursor: walk_batches::started(store),
+    }
 }
 
-// One step of the walk, at a budget of word reads: the reader keeps the cursor.
-pub fn next<'s, 'a>(it: &'s mut BitIter<'a>, budget: u64) -> Told
-    ensures { (it.new.store ≡ it.old.store)
-        × (it.new.cursor ≡ (next_in it.old.store.now it.old.cursor budget).cursor)
-        × (result ≡ told (next_in it.old.store.now it.old.cursor budget)) }
-{
-    let c = it.cursor;
-    let s = c.next(it.store, budget);
-    let d = s.cursor;
-    it.cursor = d;
-    Told {
-        reads: s.reads,
-        answer: s.answer,
+impl BitIter<'_> {
+    // One step of the walk, at a budget of word reads: the reader keeps the cursor.
+    pub fn next(&mut self, budget: u64) -> Told
+        ensures { (self.new.store ≡ self.old.store)
+            × (self.new.cursor ≡ (next_in self.old.store.now self.old.cursor budget).cursor)
+            × (result ≡ told (next_in self.old.store.now self.old.cursor budget)) }
+    {
+        let s = self.cursor.next(self.store, budget);
+        self.cursor = s.cursor;
+        Told {
+            reads: s.reads,
+            answer: s.answer,
+        }
     }
 }
 
@@ -50,6 +52,5 @@ pub fn next<'s, 'a>(it: &'s mut BitIter<'a>, budget: u64) -> Told
 pub fn first(store: &[u64], budget: u64) -> Told
     ensures { result ≡ told (next_in store.now (started_of store.now) budget) }
 {
-    let mut it = iter(store);
-    next(&mut it, budget)
+    iter(store).next(budget)
 }

@@ -1,5 +1,5 @@
 -- `ids` meets its contract: a walk that is started has all of its ids to hand out.
-use Rattle.std.proofs.Common.{length, ap}
+use Rattle.std.proofs.Common.{length, refl, ap, arith}
 use Rattle.std.specs.Iterator.{YieldsFirst}
 use Rattle.std.proofs.iter.runs.Sources.{from_front, as_is}
 use Rattle.walk_batches.specs.Ids.{ids_left}
@@ -13,6 +13,9 @@ pub invariant_of-result-2 : goal.invariant_of-result-2
 invariant_of-result-2 c = record {
   words = words_small c.args.store c.of.ensures (λ i. (c.type_inv.store i).fits);
   wf = started_wf c.args.store.now (λ i. (c.type_inv.store i).fits) c.started.ensures;
+  inside = omega arith;
+  most = omega arith;
+  long = refl;
 }
 
 pub returns-clause-left : goal.returns-clause-left
