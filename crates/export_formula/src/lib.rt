@@ -11,14 +11,15 @@ ghost use Rattle.export_formula.specs.Walk.{formula_started};
 
 use export_answer::Answer;
 use export_step::StepAnswer;
+use formula_codes::Formula;
 
 #[unsafe(no_mangle)]
-pub extern "C" fn fen_formula_start(
-    codes: &[u8],
-    s0: &[u64],
-    s1: &[u64],
-    s2: &[u64],
-    s3: &[u64],
+pub extern "C" fn fen_formula_start<'a>(
+    codes: &'a [u8],
+    s0: &'a [u64],
+    s1: &'a [u64],
+    s2: &'a [u64],
+    s3: &'a [u64],
     cursor: &mut [u64; 10],
 ) -> StepAnswer
     ensures result_value { let ss = four s0.now s1.now s2.now s3.now in
@@ -26,52 +27,67 @@ pub extern "C" fn fen_formula_start(
     ensures cursor_after { let ss = four s0.now s1.now s2.now s3.now in
         cursor.new ≡ cursor_after (formula_started ss codes.now cursor.old) cursor.old }
 {
-    let c = export_cursor::cursor_in(cursor);
-    let s = formula_walk::start(c, codes, s0, s1, s2, s3);
+    let f = Formula {
+        codes,
+        stores: [s0, s1, s2, s3],
+    };
+    let s = formula_walk::start(export_cursor::cursor_in(cursor), &f);
     export_step::told_step(cursor, s)
 }
 
 #[unsafe(no_mangle)]
-pub extern "C" fn fen_formula_contains(
-    codes: &[u8],
-    s0: &[u64],
-    s1: &[u64],
-    s2: &[u64],
-    s3: &[u64],
+pub extern "C" fn fen_formula_contains<'a>(
+    codes: &'a [u8],
+    s0: &'a [u64],
+    s1: &'a [u64],
+    s2: &'a [u64],
+    s3: &'a [u64],
     id: u32,
 ) -> Answer
     ensures { let ss = four s0.now s1.now s2.now s3.now in
         result ≡ answer_of (formula_contains_of ss codes.now id).numbers }
 {
-    export_answer::asked(formula_ask::contains(codes, s0, s1, s2, s3, id))
+    let f = Formula {
+        codes,
+        stores: [s0, s1, s2, s3],
+    };
+    Answer::from(formula_ask::contains(&f, id))
 }
 
 #[unsafe(no_mangle)]
-pub extern "C" fn fen_formula_is_empty(
-    codes: &[u8],
-    s0: &[u64],
-    s1: &[u64],
-    s2: &[u64],
-    s3: &[u64],
+pub extern "C" fn fen_formula_is_empty<'a>(
+    codes: &'a [u8],
+    s0: &'a [u64],
+    s1: &'a [u64],
+    s2: &'a [u64],
+    s3: &'a [u64],
 ) -> Answer
     ensures { let ss = four s0.now s1.now s2.now s3.now in
         result ≡ answer_of (formula_is_empty_of ss codes.now).numbers }
 {
-    export_answer::asked(formula_ask::is_empty(codes, s0, s1, s2, s3))
+    let f = Formula {
+        codes,
+        stores: [s0, s1, s2, s3],
+    };
+    Answer::from(formula_ask::is_empty(&f))
 }
 
 #[unsafe(no_mangle)]
-pub extern "C" fn fen_formula_get_from_layer(
-    codes: &[u8],
-    s0: &[u64],
-    s1: &[u64],
-    s2: &[u64],
-    s3: &[u64],
+pub extern "C" fn fen_formula_get_from_layer<'a>(
+    codes: &'a [u8],
+    s0: &'a [u64],
+    s1: &'a [u64],
+    s2: &'a [u64],
+    s3: &'a [u64],
     layer: usize,
     index: usize,
 ) -> Answer
     ensures { let ss = four s0.now s1.now s2.now s3.now in
         result ≡ answer_of (layer_word_of ss codes.now layer index).numbers }
 {
-    export_answer::read(formula_ask::get_from_layer(codes, s0, s1, s2, s3, layer, index))
+    let f = Formula {
+        codes,
+        stores: [s0, s1, s2, s3],
+    };
+    Answer::from(formula_ask::get_from_layer(&f, layer, index))
 }
