@@ -34,7 +34,7 @@ use Rattle.walk_batches.specs.Calls.{started_of}
 use Rattle.walk_reader.specs.Readers.{told}
 use Rattle.walk_reader.proofs.first.Reads.{Asked as first_r_asks, Learnt as first_r_tells}
 use Rattle.walk_reader.specs.contracts.iter as iter
-use Rattle.walk_reader.specs.contracts.next as next_of
+use Rattle.walk_reader.specs.contracts.BitIter.next as next_of
 use Rattle.formula_codes.specs.Formula.{slices}
 use Rattle.formula_ask.proofs.contains.Reads.{Asked as contains_f_asks, Learnt as contains_f_tells}
 use Rattle.formula_ask.proofs.get_from_layer.Reads.{Asked as get_from_layer_f_asks, Learnt as get_from_layer_f_tells}
@@ -49,7 +49,7 @@ use Rattle.map_write.proofs.write.Reads.{Asked as write_asks, Learnt as write_te
 use Rattle.map_write.proofs.length.Reads.{Asked as map_length_asks, Learnt as map_length_tells}
 use Rattle.map_read.proofs.capacity.Reads.{Asked as map_capacity_asks, Learnt as map_capacity_tells}
 use Rattle.map_read.proofs.read.Reads.{Asked as read_asks, Learnt as read_tells}
-use Rattle.directory.specs.Lent.{slices, SameSlices}
+use Rattle.directory.specs.Lent.{slices as lent_slices, SameSlices}
 use Rattle.directory.proofs.Directory.give.Reads.{Asked as give_asks, Learnt as give_tells}
 use Rattle.directory.proofs.Directory.«open».Reads.{Asked as open_directory_asks, Learnt as open_directory_tells}
 use Rattle.directory.proofs.Directory.take_back.Reads.{Asked as take_back_asks, Learnt as take_back_tells}
@@ -166,15 +166,15 @@ map_length_promised = (refl, refl)
 pub map_capacity_promised : (map_capacity_asks ≡ λ κs a. Unit {0}) × (map_capacity_tells ≡ λ κs a z e. Meets (promise_of (map_capacity a.0.now)) z tt)
 map_capacity_promised = (refl, refl)
 
--- ---- the directory: its two slices stay the same two, and what they hold is as promised
+-- ---- the directory: its two lent_slices stay the same two, and what they hold is as promised
 
-pub open_directory_promised : (open_directory_asks ≡ λ κs a. Unit {0}) × (open_directory_tells ≡ λ κs a z e. SameSlices a.0.now e.0.now × Meets (promise_of (open_directory (slices a.0.now) a.1.0)) z (slices e.0.now))
+pub open_directory_promised : (open_directory_asks ≡ λ κs a. Unit {0}) × (open_directory_tells ≡ λ κs a z e. SameSlices a.0.now e.0.now × Meets (promise_of (open_directory (lent_slices a.0.now) a.1.0)) z (lent_slices e.0.now))
 open_directory_promised = (refl, refl)
 
-pub give_promised : (give_asks ≡ λ κs a. Unit {0}) × (give_tells ≡ λ κs a z e. SameSlices a.0.now e.0.now × Meets (promise_of (give (slices a.0.now) a.1.0)) z (slices e.0.now))
+pub give_promised : (give_asks ≡ λ κs a. Unit {0}) × (give_tells ≡ λ κs a z e. SameSlices a.0.now e.0.now × Meets (promise_of (give (lent_slices a.0.now) a.1.0)) z (lent_slices e.0.now))
 give_promised = (refl, refl)
 
-pub take_back_promised : (take_back_asks ≡ λ κs a. Unit {0}) × (take_back_tells ≡ λ κs a z e. SameSlices a.0.now e.0.now × Meets (promise_of (take_back (slices a.0.now) a.1.0 a.1.1.0)) z (slices e.0.now))
+pub take_back_promised : (take_back_asks ≡ λ κs a. Unit {0}) × (take_back_tells ≡ λ κs a z e. SameSlices a.0.now e.0.now × Meets (promise_of (take_back (lent_slices a.0.now) a.1.0 a.1.1.0)) z (lent_slices e.0.now))
 take_back_promised = (refl, refl)
 
 -- ---- the reader: where a struct with a reference is taken or handed back, the contract is the function's `spec`, and what it requires is

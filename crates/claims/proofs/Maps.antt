@@ -11,7 +11,7 @@ use lib.Seq.{sets}
 use Rattle.std.specs.Prelude.{Result, Ok}
 use Rattle.store.specs.declared.Refusal.{Refusal}
 use Rattle.util.specs.Outcome.{Outcome, Settled}
-use Rattle.store.specs.Answer.{did_paper, gives, does, refuses}
+use Rattle.store.specs.Answer.{did_paper, number_paper, gives, does, refuses}
 use Rattle.store.specs.Build.{build}
 use Rattle.store.specs.Word.{members, SoundStore}
 use Rattle.store.proofs.Geometry.{is_store_lem}

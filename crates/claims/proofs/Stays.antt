@@ -43,15 +43,16 @@ at_most : ℕ → List ℕ → Bool
 at_most k [] = true
 at_most k (m ∷ l) = leb m k && at_most k l
 
+among_step : (k n m : ℕ) (x y : Bool) → eqb n m ≡ x → leb m k ≡ true → (y ≡ true → n ≤ k) → (x || y) ≡ true → n ≤ k
+among_step k n m true y p l below z = let q : n ≡ m = eqb-true n m p in omega (arith, q, leb-true m k l)
+among_step k n m false y p l below z = below z
+
 among_at_most : (k n : ℕ) (l : List ℕ) → at_most k l ≡ true → is_among l n ≡ true → n ≤ k
+unfolding at_most
 among_at_most k n [] h e = absurd (true≢false (sym e))
-among_at_most k n (m ∷ l) h e = go (eqb n m) refl e
-  where
-    b : (leb m k ≡ true) × (at_most k l ≡ true)
-    b = both (leb m k) (at_most k l) h
-    go : (x : Bool) → eqb n m ≡ x → (x || is_among l n) ≡ true → n ≤ k
-    go true p z = let q : n ≡ m = eqb-true n m p in omega (arith, q, leb-true m k b.0)
-    go false p z = among_at_most k n l b.1 z
+among_at_most k n (m ∷ l) h e =
+    let b = both (leb m k) (at_most k l) h in
+    among_step k n m (eqb n m) (is_among l n) refl b.0 (among_at_most k n l b.1) e
 
 -- a number of the table is that of its refusal
 said : (n : ℕ) → is_known n ≡ true → n ≢ 0 → number (numbered n) ∷ [] ≡ n ∷ []
