@@ -56,6 +56,7 @@ among_at_most k n (m ∷ l) h e =
 
 -- a number of the table is that of its refusal
 said : (n : ℕ) → is_known n ≡ true → n ≢ 0 → number (numbered n) ∷ [] ≡ n ∷ []
+unfolding at_most
 said n h z = ap (λ (m : ℕ). m ∷ []) (number_numbered n (omega (arith, z)) (among_at_most 15 n (0 ∷ refusal_numbers) refl h))
 
 -- where its first number is not 0, the outcome is a refusal
