@@ -8,36 +8,32 @@ ghost use Rattle.set_superset.specs.Calls.{contains_set_of};
 ghost use Rattle.summary.specs.Calls.{is_sound_of};
 ghost use Rattle.export_answer.specs.Abi.{answer_of, bit_of};
 
-use average::Half;
 use export_answer::{Answer, Bit};
 
 #[unsafe(no_mangle)]
 pub extern "C" fn fen_equal(store: &[u64], other: &[u64]) -> Answer
     ensures { result ≡ answer_of (equal_of store.now other.now).numbers }
 {
-    export_answer::asked(set_whole::equal(store, other))
+    Answer::from(set_whole::equal(store, other))
 }
 
 #[unsafe(no_mangle)]
 pub extern "C" fn fen_contains_set(store: &[u64], other: &[u64]) -> Answer
     ensures { result ≡ answer_of (contains_set_of store.now other.now).numbers }
 {
-    export_answer::asked(set_superset::contains_set(store, other))
+    Answer::from(set_superset::contains_set(store, other))
 }
 
 #[unsafe(no_mangle)]
 pub extern "C" fn fen_is_sound(store: &[u64]) -> Answer
     ensures { result ≡ answer_of (is_sound_of store.now).numbers }
 {
-    export_answer::asked(summary::is_sound(store))
+    Answer::from(summary::is_sound(store))
 }
 
 #[unsafe(no_mangle)]
 pub extern "C" fn fen_average_ones(word: u64) -> Bit
     ensures { result ≡ bit_of (average_of word).numbers }
 {
-    match average::average_ones(word) {
-        Half::At(bit) => Bit { some: 1, bit },
-        Half::Nothing => Bit { some: 0, bit: 0 },
-    }
+    Bit::from(average::average_ones(word))
 }

@@ -8,14 +8,15 @@ ghost use Rattle.export_step.specs.Answers.{moved_of, cursor_after, stopped_of, 
 ghost use Rattle.export_formula_walk.specs.Walk.{formula_stepped, formula_filled};
 
 use export_step::StepAnswer;
+use formula_codes::Formula;
 
 #[unsafe(no_mangle)]
-pub extern "C" fn fen_formula_next(
-    codes: &[u8],
-    s0: &[u64],
-    s1: &[u64],
-    s2: &[u64],
-    s3: &[u64],
+pub extern "C" fn fen_formula_next<'a>(
+    codes: &'a [u8],
+    s0: &'a [u64],
+    s1: &'a [u64],
+    s2: &'a [u64],
+    s3: &'a [u64],
     cursor: &mut [u64; 10],
     budget: u64,
 ) -> StepAnswer
@@ -24,18 +25,21 @@ pub extern "C" fn fen_formula_next(
     ensures cursor_after { let ss = four s0.now s1.now s2.now s3.now in
         cursor.new ≡ cursor_after (formula_stepped ss codes.now cursor.old budget) cursor.old }
 {
-    let c = export_cursor::cursor_in(cursor);
-    let s = formula_walk::next(c, codes, s0, s1, s2, s3, budget);
+    let f = Formula {
+        codes,
+        stores: [s0, s1, s2, s3],
+    };
+    let s = formula_walk::next(export_cursor::cursor_in(cursor), &f, budget);
     export_step::told_step(cursor, s)
 }
 
 #[unsafe(no_mangle)]
-pub extern "C" fn fen_formula_fill(
-    codes: &[u8],
-    s0: &[u64],
-    s1: &[u64],
-    s2: &[u64],
-    s3: &[u64],
+pub extern "C" fn fen_formula_fill<'a>(
+    codes: &'a [u8],
+    s0: &'a [u64],
+    s1: &'a [u64],
+    s2: &'a [u64],
+    s3: &'a [u64],
     cursor: &mut [u64; 10],
     budget: u64,
     out: &mut [u32],
@@ -49,7 +53,10 @@ pub extern "C" fn fen_formula_fill(
         let cs = codes.now in
         out.new ≡ out_of (formula_filled ss cs cursor.old budget out.old) out.old }
 {
-    let c = export_cursor::cursor_in(cursor);
-    let b = formula_fill::fill(c, codes, s0, s1, s2, s3, budget, out);
+    let f = Formula {
+        codes,
+        stores: [s0, s1, s2, s3],
+    };
+    let b = formula_fill::fill(export_cursor::cursor_in(cursor), &f, budget, out);
     export_step::told_batch(cursor, b)
 }

@@ -8,6 +8,7 @@ ghost use Rattle.export_step.specs.Answers.{moved_of};
 ghost use Rattle.export_probe.specs.First.{first_in, reads_left};
 
 use export_step::StepAnswer;
+use walk::Next;
 
 #[unsafe(no_mangle)]
 pub extern "C" fn fen_probe_row(id: u32, shift: usize) -> usize
@@ -44,11 +45,8 @@ pub extern "C" fn fen_probe_first(store: &[u64], budget: u64, reads: &mut u64) -
     ensures reads_after { reads.new ≡ reads_left (first_in store.now budget) reads.old }
 {
     let t = walk_reader::first(store, budget);
-    let n = t.answer;
-    let a = export_step::moved(n);
-    if a.which == 0 {
-        return a;
+    if !matches!(t.answer, Next::Refused(_)) {
+        *reads = t.reads;
     }
-    *reads = t.reads;
-    a
+    t.answer.into()
 }

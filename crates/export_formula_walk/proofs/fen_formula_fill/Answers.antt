@@ -17,5 +17,5 @@ returns-clause-cursor_after c =
     let o = a.out.now in
     c.told_batch.ensures.words_after
     ∙ ap (λ (x : Batch). left_of (stop_of x.stop x.count) a.cursor.now x.cursor x.reads)
-    (the_batch (formula_fill_in ss a.codes.now c.cursor_in-c.result a.budget (length o)) o c.fill-b.ensures
-    ∙ ap (λ (x : Cursor). batch (formula_fill_in ss a.codes.now x a.budget (length o))) c.cursor_in-c.ensures)
+    (the_batch (formula_fill_in ss a.codes.now c.cursor_in.result a.budget (length o)) o c.fill-b.ensures
+    ∙ ap (λ (x : Cursor). batch (formula_fill_in ss a.codes.now x a.budget (length o))) c.cursor_in.ensures)
