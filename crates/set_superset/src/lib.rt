@@ -19,8 +19,8 @@ fn all_held(store: &[u64], ids: &[u32]) -> bool
         .all(|id| set_member::contains(store, *id) == Ok(true))
 }
 
-// Whether a store has every id that a walk of the other one hands out, 64 ids at a time: by `walk_batches::ids`, one after another, it took
-// three to twelve times as long.
+// Whether a store has every id that a walk of the other one hands out, 64 ids at a time: one after another, by `walk_batches::ids`, they
+// took up to twice as long.
 fn all_walked(store: &[u64], other: &[u64]) -> bool
     requires { (is_store store.now ≡ true) × (is_store other.now ≡ true) }
     ensures { result ≡ all_held store.now (walked other.now) }
