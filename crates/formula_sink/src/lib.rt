@@ -96,7 +96,8 @@ impl<'a> FormulaWords<'a> {
         lower(c, p.layer, w)
     }
 
-    // Words are read where no member is at hand.
+    // Words are read where no member is at hand: by a function of its own, so that a member at hand costs no call.
+    #[inline(never)]
     fn descend(&self, from: Cursor, spent: u64, budget: u64) -> Sunk
         ensures { Sinks (words_of self.now.formula self.now.n) top_most budget spent from result }
     {
@@ -117,6 +118,7 @@ impl Words for FormulaWords<'_> {
     ghost word = { λ w. words_of w.formula w.n };
 
     // A member at hand is met here, so that it costs no call.
+    #[inline(always)]
     fn sink(&self, from: Cursor, spent: u64, budget: u64) -> Sunk {
         if from.masks[0] != 0 {
             Sunk {
