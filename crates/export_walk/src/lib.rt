@@ -16,6 +16,17 @@ pub extern "C" fn fen_start(store: &[u64], cursor: &mut [u64; 10]) -> StepAnswer
     export_step::told_step(cursor, s)
 }
 
+// A step that may read: a function of its own, so that a member at hand saves no register.
+#[inline(never)]
+fn stepped(store: &[u64], cursor: &mut [u64; 10], budget: u64) -> StepAnswer
+    ensures value { result ≡ moved_of (walk_stepped store.now cursor.old budget) }
+    ensures cursor_after { let c = cursor.old in
+        cursor.new ≡ cursor_after (walk_stepped store.now c budget) c }
+{
+    let s = export_cursor::cursor_in(cursor).next(store, budget);
+    export_step::told_step(cursor, s)
+}
+
 #[unsafe(no_mangle)]
 #[tactic(auto, using(crate::proofs::Quick::quick_told, crate::proofs::Quick::quick_left))]
 pub extern "C" fn fen_next(store: &[u64], cursor: &mut [u64; 10], budget: u64) -> StepAnswer
@@ -26,8 +37,7 @@ pub extern "C" fn fen_next(store: &[u64], cursor: &mut [u64; 10], budget: u64) -
     if let Some(value) = export_quick::quick(store, cursor) {
         return StepAnswer { which: 1, value };
     }
-    let s = export_cursor::cursor_in(cursor).next(store, budget);
-    export_step::told_step(cursor, s)
+    stepped(store, cursor, budget)
 }
 
 #[unsafe(no_mangle)]
