@@ -1,7 +1,7 @@
 -- What each way out of the code answers is what the definition answers there.
 use mathlib.Core.Bool.{Bool, true, false, cond, ◌&&◌, true≢false}
 use mathlib.Core.List.{List, [], ◌∷◌}
-use mathlib.Core.Logic.{◌≢◌, ⊎_elim}
+use mathlib.Core.Logic.{◌≢◌}
 use mathlib.Core.Path.{◌≡◌, refl, sym, ap, ap₂, ◌∙◌}
 use Prim.Native.Nat.{ℕ, ◌≤◌, ◌<◌}
 use native.Mathlib.Omega.{arith}
@@ -14,14 +14,14 @@ use Rattle.util.proofs.Same.{both}
 use Rattle.store.specs.Answer.{number, numbered, tested, judged, did_paper, number_paper, gives, does, refuses}
 use Rattle.store.specs.Layout.{cap, is_store, StoreOf}
 use Rattle.store.specs.declared.Refusal.{Refusal}
-use Rattle.store.specs.declared.Refusal.TheVariants.{NoStore, Owners, Item, Owner}
+use Rattle.store.specs.declared.Refusal.TheVariants.{NoStore, Full, Owners, Item, Owner}
 use Rattle.store.proofs.Ends.{some_store, passed}
 use Rattle.store.proofs.Exits.{no_store_out, refused_out, number_numbered}
 use Rattle.store.proofs.Geometry.{is_store_lem, store_is}
 use Rattle.store.proofs.Judged.{nothing, something, judged-number}
 use Rattle.set_edit.specs.Calls.{add_of, remove_of}
-use Rattle.set_free.specs.Calls.{first_free_of}
-use Rattle.set_free.proofs.Lowest.{free_told, free_found}
+use Rattle.set_free.specs.Calls.{lowest_of, first_free_of}
+use Rattle.set_free.proofs.Lowest.{lowest_found, lowest_none}
 use Rattle.set_whole.specs.Calls.{open_refusal, open_of}
 use Rattle.set_whole.proofs.Answers.{few_refusals}
 use Rattle.directory.specs.Calls.{Directory, directory, owner_at, is_item, unless, room_refusal, item_refusal, return_refusal, directory_open_of, give_of, take_back_of}
@@ -238,32 +238,20 @@ module _ (d : Directory) (x : ℕ) {r : Result (Unit {0}) Refusal} (e : r ≡ ju
     pub item_small : x < 256
     item_small = omega (arith, (item_in x goes_on.item).1)
 
-    module _ {f : Result ℕ Refusal} (s : Settled number_paper (first_free_of d.store) f tt) where
-      -- the search finds a chunk, or none is free
-      pub give_full : {q : Result ℕ Refusal} {y : Refusal} → f ≡ Err y → IsErrAnd q (λ z. z ≡ y) → Settled number_paper (give_of d x) q d
+    -- the lowest chunk is free, or none is
+    module _ {c : ℕ} (low : c ≡ lowest_of d.store) where
+      pub give_full : length d.owners ≤ c → Settled number_paper (give_of d x) (Err Full) d
       unfolding give_of
-      give_full {q} {y} h o =
-          let a : number y ∷ [] ≡ (first_free_of d.store).numbers = rw h at s.answer in
-          rw (passed o) (⊎_elim
-          (λ (g : (i : ℕ) × (first_free_of d.store ≡ gives i tt)). cc (ap (λ (z : Outcome (Unit {0})). z.numbers) g.1))
-          (λ (g : first_free_of d.store ≡ refuses 12 tt). settled (rw (nothing _ e went, g) (ap (λ (l : List ℕ). record { numbers = l; lent = d }) (sym (a ∙ ap (λ (z : Outcome (Unit {0})). z.numbers) g)))))
-          (free_told d.store (store_is goes_on.is)))
+      give_full l =
+          let f : first_free_of d.store ≡ refuses 12 tt = lowest_none d.store (store_is goes_on.is) (omega (arith, low, l, goes_on.long)) in
+          settled (rw (nothing _ e went, f) refl)
 
-      pub give_found : {c : ℕ} → f ≡ Ok c → (first_free_of d.store ≡ gives c tt) × (c < length d.owners)
-      give_found {c} h =
-          let a : 0 ∷ c ∷ [] ≡ (first_free_of d.store).numbers = rw h at s.answer in
-          ⊎_elim
-          (λ (g : (i : ℕ) × (first_free_of d.store ≡ gives i tt)). (let same : g.0 ≡ c = cc (ap (λ (z : Outcome (Unit {0})). z.numbers) g.1) in (
-            g.1 ∙ ap (λ (i : ℕ). gives i tt) same,
-            omega (arith, same, (free_found d.store (store_is goes_on.is) g.0 g.1).below, goes_on.long),
-          )))
-          (λ (g : first_free_of d.store ≡ refuses 12 tt). cc (ap (λ (z : Outcome (Unit {0})). z.numbers) g))
-          (free_told d.store (store_is goes_on.is))
-
-      pub give_done : {c : ℕ} → f ≡ Ok c → (t o : List ℕ) → t ≡ (add_of d.store c).lent → o ≡ set d.owners c x
+      pub give_done : c < length d.owners → (t o : List ℕ) → t ≡ (add_of d.store c).lent → o ≡ set d.owners c x
           → Settled number_paper (give_of d x) (Ok c) (directory t o)
       unfolding give_of
-      give_done g t o i j = settled (rw (nothing _ e went, (give_found g).0) (ap (gives _) (ap₂ directory (sym i) (sym j))))
+      give_done l t o i j =
+          let f : first_free_of d.store ≡ gives c tt = lowest_found d.store (store_is goes_on.is) (omega (arith, low, l, goes_on.long)) ∙ ap (λ (k : ℕ). gives k tt) (sym low) in
+          settled (rw (nothing _ e went, f) (ap (gives _) (ap₂ directory (sym i) (sym j))))
 
 module _ (d : Directory) (x c : ℕ) {r : Result (Unit {0}) Refusal} (e : r ≡ judged (return_refusal d x c)) where
   pub take_out : {q : Result (Unit {0}) Refusal} {y : Refusal} → r ≡ Err y → IsErrAnd q (λ z. z ≡ y) → Settled did_paper (take_back_of d x c) q d

@@ -5,7 +5,7 @@
 ghost use Rattle.std.specs.Prelude.{◌≡◌, length};
 ghost use Rattle.util.specs.Outcome.{Settled};
 ghost use Rattle.store.specs.Answer.{did_paper, number_paper, judged};
-ghost use Rattle.set_free.specs.Calls.{first_free_of};
+ghost use Rattle.set_free.specs.Calls.{lowest_of};
 ghost use Rattle.directory.specs.Calls.{is_item, item_refusal, room_refusal, return_refusal, directory_open_of, give_of, take_back_of};
 ghost use Rattle.directory.specs.Lent.{slices, SameSlices};
 
@@ -68,11 +68,11 @@ impl Directory<'_> {
         }
     }
 
-    // The lowest chunk that is free.
-    fn first_free(&self) -> Result<u32, Refusal>
-        ensures { Settled number_paper (first_free_of (slices self.now).store) result tt }
+    // The lowest chunk that is free, or the capacity where there is none.
+    fn lowest_free(&self) -> u32
+        ensures { result ≡ lowest_of (slices self.now).store }
     {
-        set_free::first_free(self.store)
+        set_free::lowest_free(self.store)
     }
 
     // Empties the store and the bytes, for a capacity of n.
@@ -92,7 +92,10 @@ impl Directory<'_> {
         ensures settled { Settled number_paper (give_of (slices self.old) item) result (slices self.new) }
     {
         self.can_take(item)?;
-        let chunk = self.first_free()?;
+        let chunk = self.lowest_free();
+        if self.owners.len() <= chunk as usize {
+            return Err(Refusal::Full);
+        }
         let _ = set_edit::add(self.store, chunk);
         self.owners[chunk as usize] = item as u8;
         Ok(chunk)

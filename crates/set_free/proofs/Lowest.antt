@@ -8,8 +8,7 @@ use Prim.Native.Nat.{ℕ, suc, ◌+◌, ◌-◌, ◌/◌, ◌%◌, ◌≤◌, �
 use native.Mathlib.Decide.{ℕ_discrete}
 use native.Mathlib.Omega.{arith}
 use lib.ListN.{length, take, drop}
-use Rattle.std.specs.Result.{result_unwrap_or}
-use Rattle.util.specs.Outcome.{Outcome, Settled, settled, settles}
+use Rattle.util.specs.Outcome.{Settled, settled}
 use Rattle.util.specs.Word.{bit, places, Rising}
 use Rattle.util.proofs.Places.{places_same, places_none, places_in_lem, in_places, places_rising}
 use Rattle.store.specs.Answer.{number_paper, tested, gives, refuses, refusal_number, value_of}
@@ -18,7 +17,7 @@ use Rattle.store.specs.Layout.{words, cap, is_store, StoreOf, start_from}
 use Rattle.store.specs.Word.{on, Member, Words64}
 use Rattle.store.specs.declared.Refusal.{Refusal}
 use Rattle.store.specs.declared.Refusal.TheVariants.{Full}
-use Rattle.std.specs.Prelude.{Result, Err, IsErrAnd, Option, ok_or, slice_get}
+use Rattle.std.specs.Prelude.{Result, Ok, Err, IsErrAnd, Option, unwrap_or, slice_get}
 use Rattle.store.proofs.Exits.{no_store_out}
 use Rattle.store.proofs.Build.{word-layer0}
 use Rattle.store.proofs.Ends.{lent0}
@@ -155,29 +154,26 @@ module _ (s : List ℕ) (is : StoreOf (cap s) s) where
               absurd (Memᴰ.not-nil (subst (Memᴰ j) q (in_places free search_start (cap s - search_start) j a (omega arith) z)))
       go (x ∷ l) q o j a u = absurd (let z : 0 ≡ 12 = ap refusal_number o in omega arith)
 
--- ---- what the code finds is the answer
-
-found : (l : List ℕ) → Settled number_paper (first_of l) (ok_or (slice_get l 0) Full) tt
-found [] = settled refl
-found (i ∷ l) = settled refl
+-- ---- what the code finds is the lowest, and that is the answer
 
 module _ {N : ℕ} {s : List ℕ} (z : StoreOf N s) where
   own_store : StoreOf (cap s) s
   own_store = store_is (is_store_lem z)
 
-  pub found_is : {a : ℕ} {r : Option ℕ} {q : Result ℕ Refusal} → a ≡ start_from (length s) N 0 → Words64 s
-      → r ≡ slice_get (free_in (take (length s - a) (drop a s)) N search_start) 0 → q ≡ ok_or r Full → Settled number_paper (first_free_of s) q tt
-  found_is {a} {r} {q} a_is small e q-is =
-      let x : slice_get (free_from (cap s) s search_start) 0 ≡ r = sym (e ∙ ap (λ (l : List ℕ). slice_get l 0) (free_same z a_is small)) in
-      rw (q-is, answer_is s own_store) (subst (λ (o : Option ℕ). Settled number_paper (first_of (free_from (cap s) s search_start)) (ok_or o Full) tt) x (found (free_from (cap s) s search_start)))
-
-  -- and N in place of a refusal is the lowest
-  pub lowest_is : {r : Result ℕ Refusal} → Settled number_paper (first_free_of s) r tt → {x : ℕ} → x ≡ result_unwrap_or r N → x ≡ lowest_of s
-  lowest_is {r} e {x} x-is = go (free_from (cap s) s search_start) (answer_is s own_store) (lowest_list s own_store)
+  -- N in place of none
+  pub lowest_is : {a : ℕ} {r : Option ℕ} {x : ℕ} → a ≡ start_from (length s) N 0 → Words64 s
+      → r ≡ slice_get (free_in (take (length s - a) (drop a s)) N search_start) 0 → x ≡ unwrap_or r N → x ≡ lowest_of s
+  lowest_is {a} {r} {x} a_is small e x-is =
+      let f : r ≡ slice_get (free_from (cap s) s search_start) 0 = e ∙ ap (λ (l : List ℕ). slice_get l 0) (free_same z a_is small) in
+      x-is ∙ ap (λ (o : Option ℕ). unwrap_or o N) f ∙ go (free_from (cap s) s search_start) ∙ sym (lowest_list s own_store)
     where
-      told : (l : List ℕ) → first_free_of s ≡ first_of l → r ≡ ok_or (slice_get l 0) Full
-      told l a = (settles e (subst (λ (o : Outcome (Unit {0})). Settled number_paper o (ok_or (slice_get l 0) Full) tt) (sym a) (found l))).0
+      go : (l : List ℕ) → unwrap_or (slice_get l 0) N ≡ first_or (cap s) l
+      go [] = sym z.names
+      go (i ∷ l) = refl
 
-      go : (l : List ℕ) → first_free_of s ≡ first_of l → lowest_of s ≡ first_or (cap s) l → x ≡ lowest_of s
-      go [] a b = x-is ∙ ap (λ (q : Result ℕ Refusal). result_unwrap_or q N) (told [] a) ∙ sym z.names ∙ sym b
-      go (i ∷ l) a b = x-is ∙ ap (λ (q : Result ℕ Refusal). result_unwrap_or q N) (told (i ∷ l) a) ∙ sym b
+  module _ {r : ℕ} (e : r ≡ lowest_of s) where
+    pub free_at_lem : r < N → Settled number_paper (first_free_of s) (Ok r) tt
+    free_at_lem l = settled (lowest_found s own_store (omega (arith, e, z.names)) ∙ ap (λ (i : ℕ). gives i tt) (sym e))
+
+    pub free_12 : N ≤ r → Settled number_paper (first_free_of s) (Err Full) tt
+    free_12 l = settled (lowest_none s own_store (omega (arith, e, z.names)))

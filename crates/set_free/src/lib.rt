@@ -84,22 +84,29 @@ fn search(layer: &[u64], n: usize, first: usize) -> Option<u32>
     within(64 * p + w.trailing_zeros() as usize, n)
 }
 
-// The lowest id from 1 on and below the capacity that is not a member.
+// The lowest id from 1 on and below the capacity that is not a member, or the capacity where there is none; 0 of a slice that is no store.
 #[tactic(auto, using(store::proofs::Inside::tested_start))]
-pub fn first_free(store: &[u64]) -> Result<u32, Refusal>
-    ensures { Settled number_paper (first_free_of store.now) result tt }
-{
-    let n = store::capacity(store)?;
-    let a = store::start(store.len(), n, 0);
-    search(&store[a..], n, SEARCH_START).ok_or(Refusal::Full)
-}
-
-// The same, or the capacity where there is none; 0 of a slice that is no store.
 pub fn lowest_free(store: &[u64]) -> u32
     ensures { result ≡ lowest_of store.now }
 {
     match store::capacity(store) {
-        Ok(n) => first_free(store).unwrap_or(n as u32),
+        Ok(n) => {
+            let a = store::start(store.len(), n, 0);
+            search(&store[a..], n, SEARCH_START).unwrap_or(n as u32)
+        }
         Err(_) => 0,
+    }
+}
+
+// The lowest id from 1 on and below the capacity that is not a member.
+pub fn first_free(store: &[u64]) -> Result<u32, Refusal>
+    ensures { Settled number_paper (first_free_of store.now) result tt }
+{
+    let n = store::capacity(store)?;
+    let id = lowest_free(store);
+    if (id as usize) < n {
+        Ok(id)
+    } else {
+        Err(Refusal::Full)
     }
 }

@@ -1,16 +1,13 @@
--- `first_free` meets its contract: past the test the slice is a store, and its layer 0 is lent to the search.
-use native.Mathlib.Omega.{arith}
+-- `first_free` meets its contract: past the test the slice is a store, and the lowest is below N or there is none.
 use Rattle.store.proofs.Ends.{some_store}
-use Rattle.set_free.proofs.Lowest.{free_2, lent_small, found_is}
+use Rattle.set_free.proofs.Lowest.{free_2, free_at_lem, free_12}
 use Rattle.set_free.proofs.first_free.Goals as goal
 
 pub returns-in_err-n : goal.returns-in_err-n
 returns-in_err-n c = free_2 _ c.capacity.ensures c.in_err-n.was c.from_residual.ensures.1
 
-pub search-requires : goal.search-requires
-search-requires c =
-    let z = some_store _ c.capacity.ensures c.in_ok-n.was in
-    lent_small z c.start-a.ensures (omega (arith, z.some))
+pub returns-then-id-n : goal.returns-then-id-n
+returns-then-id-n c = free_at_lem (some_store _ c.capacity.ensures c.in_ok-n.was) c.lowest_free-id.ensures c.if-id-n.true
 
-pub returns : goal.returns
-returns c = found_is (some_store _ c.capacity.ensures c.in_ok-n.was) c.start-a.ensures (λ i. (c.type_inv.store i).fits) c.search.ensures c.ok_or.ensures.value
+pub returns-else-id-n : goal.returns-else-id-n
+returns-else-id-n c = free_12 (some_store _ c.capacity.ensures c.in_ok-n.was) c.lowest_free-id.ensures c.if-id-n.false
