@@ -7,7 +7,7 @@ ghost use Rattle.formula_codes.specs.Check.{beside_of, stores_of, check_of};
 ghost use Rattle.formula_codes.specs.Codes.{cuts_in, takes_in, is_formula};
 ghost use Rattle.formula_codes.specs.Formula.{slices, sized};
 ghost use Rattle.formula_codes.specs.Steps.{first_refusal, waiting, waiting_after};
-ghost use Rattle.formula_codes.specs.Tree.{joined, nth};
+ghost use Rattle.formula_codes.specs.Tree.{four, joined, nth};
 
 use ops_word::Op;
 use store::Refusal;
@@ -20,6 +20,23 @@ pub struct Formula<'a> {
 }
 
 impl<'a> Formula<'a> {
+    // A formula over slices that the caller has for different times: they are lent for the shortest of these.
+    pub fn of(
+        codes: &'a [u8],
+        s0: &'a [u64],
+        s1: &'a [u64],
+        s2: &'a [u64],
+        s3: &'a [u64],
+    ) -> Formula<'a>
+        ensures codes { result.codes.now ≡ codes.now }
+        ensures stores { slices result ≡ four s0.now s1.now s2.now s3.now }
+    {
+        Formula {
+            codes,
+            stores: [s0, s1, s2, s3],
+        }
+    }
+
     // The slice that a code names; codes count modulo 4.
     pub fn store(&self, code: u8) -> &'a [u64]
         ensures { result.now ≡ nth (slices self.now) (code % 4) }
