@@ -7,6 +7,11 @@ ghost use Rattle.text_out.specs.Out.{Puts, decimal_of};
 // the file descriptor of standard output
 const STDOUT_FILENO: i32 = 1;
 
+// Writes the first `at` bytes to standard output, all where there are fewer.
+pub fn flush(buf: &[u8], at: usize) {
+    io::write_all(STDOUT_FILENO, &buf[..at.min(buf.len())]);
+}
+
 // Output joined in a lent buffer, of which the first `at` bytes are filled.
 #[derive(Drop)]
 pub struct Out<'a> {
@@ -15,10 +20,9 @@ pub struct Out<'a> {
 }
 
 impl Out<'_> {
-    // Writes the filled bytes to standard output, all where there are fewer.
+    // Writes the filled bytes to standard output.
     pub fn flush(&self) {
-        let n = self.at.min(self.buf.len());
-        io::write_all(STDOUT_FILENO, &self.buf[..n]);
+        flush(self.buf, self.at);
     }
 
     // Puts a byte behind those that are filled. A full buffer is written out first.
