@@ -14,14 +14,35 @@ use Rattle.util.specs.Word.{bit, flip}
 use Rattle.util.proofs.Bits.{bit_lt, bit-bit_or, bit-bit_and, bit-flip, bit_of_zero}
 use Rattle.store.specs.Build.{flag, flags}
 use Rattle.store.proofs.Build.{flag_lt, flag-on, bit-flags}
+use Rattle.ops_word.specs.Named.{code, named}
 use Rattle.ops_word.specs.Op.{op_word, decider}
-use Rattle.ops_word.proofs.Laws.{op_still, op_none}
+use Rattle.ops_word.proofs.Laws.{op_still, op_none, op_word_named}
 use Rattle.ops_group.specs.Group.{merge_named, mark_named, all, is_dense, chosen, group_words, group_over}
 
 pub length_named : (op m i : ℕ) (xs ys : List ℕ) → length (merge_named op m i xs ys) ≡ length xs
 unfolding merge_named
 length_named op m i [] ys = refl
 length_named op m i (x ∷ xs) ys = ap suc (length_named op m (suc i) xs ys)
+
+-- two numbers of one operation
+pub named_op : (op o m i : ℕ) (xs ys : List ℕ) → ((x y : ℕ) → op_word o x y ≡ op_word op x y) → merge_named o m i xs ys ≡ merge_named op m i xs ys
+unfolding merge_named
+named_op op o m i [] ys e = refl
+named_op op o m i (x ∷ xs) ys e =
+    ap₂ (λ (z : ℕ) (zs : List ℕ). cond (eqb (bit m i) 1) z x ∷ zs) (e x (get_or ys i 0)) (named_op op o m (suc i) xs ys e)
+
+-- so what is said of the operation that any number counts as is said of the number
+module _ (n : ℕ) (xs ys : List ℕ) (m : ℕ) where
+  pub merge_of_number : merge_named (code (named n)) m 0 xs ys ≡ merge_named n m 0 xs ys
+  merge_of_number = named_op n (code (named n)) m 0 xs ys (op_word_named n)
+
+  pub group_of_number : group_words (code (named n)) xs ys m ≡ group_words n xs ys m
+  unfolding group_words
+  group_of_number = named_op n (code (named n)) (chosen xs ys m) 0 xs ys (op_word_named n)
+
+  pub over_of_number : (w : ℕ) → group_over (code (named n)) xs ys w m ≡ group_over n xs ys w m
+  unfolding group_over
+  over_of_number w = ap (λ (zs : List ℕ). mark_named (chosen xs ys m) zs w) group_of_number
 
 -- word j of the group
 named_from : (op m i : ℕ) (xs ys : List ℕ) (j : ℕ) → j < length xs

@@ -59,3 +59,13 @@ op_word_named n x y = go (eqb n 16) (eqb n 17)
     go true q = refl
     go false true = refl
     go false false = refl
+
+-- and so is the side that decides
+pub decider_named : (n x y : ℕ) → decider (code (named n)) x y ≡ decider n x y
+unfolding decider
+decider_named n x y = go (eqb n 16) (eqb n 17)
+  where
+    go : (p q : Bool) → decider (code (cond p And (cond q Or Xor))) x y ≡ cond p x y
+    go true q = refl
+    go false true = refl
+    go false false = refl
