@@ -1,5 +1,7 @@
 -- THE LIST IS THE CONTRACTS: each public function asks nothing of its caller ("Public calls check for themselves."), and what its `ensures`
 -- tells the caller is the promise in the list. The arguments in order are a, the result is z, and the parameters at exit are e.
+use mathlib.Core.Bool.{Bool, true, false, cond}
+use mathlib.Core.List.{List}
 use mathlib.Core.Path.{◌≡◌, refl}
 use denote.Triple.Clauses.{closing}
 use base.Logic.{SProp, emp}
@@ -8,6 +10,13 @@ use types.Logic.{Logic}
 use seplogic.Ra.Ura.{Ura}
 use prog.Memory.{Memory}
 use prog.Routine.{Routine}
+use Prim.Native.Nat.{ℕ}
+use Rattle.std.specs.Prelude.{Ok, Err}
+use Rattle.std.specs.Result.{result_unwrap_or}
+use Rattle.store.specs.Answer.{tested}
+use Rattle.store.specs.Layout.{cap, is_store, capacity_of}
+use Rattle.store.specs.declared.Refusal.TheVariants.{NoStore}
+use Rattle.store.proofs.capacity.Reads.{Asked as capacity_asks, Learnt as capacity_tells}
 use Rattle.average.proofs.average_ones.Reads.{Asked as average_ones_asks, Learnt as average_ones_tells}
 use Rattle.set_member.proofs.contains.Reads.{Asked as contains_asks, Learnt as contains_tells}
 use Rattle.set_edit.proofs.add.Reads.{Asked as add_asks, Learnt as add_tells}
@@ -55,6 +64,20 @@ use Rattle.directory.proofs.Directory.«open».Reads.{Asked as open_directory_as
 use Rattle.directory.proofs.Directory.take_back.Reads.{Asked as take_back_asks, Learnt as take_back_tells}
 use Rattle.claims.specs.Calls.{Meets, promise_of, Moves}
 use Rattle.claims.specs.Calls.Call.{«open», add, remove, contains, add_list, is_empty, clear, contains_set, equal, get_from_layer, average_ones, first_free, is_sound, rebuild, bitor_assign, bitand_assign, bitxor_assign, start, next, fill, contains_f, is_empty_f, get_from_layer_f, start_f, next_f, fill_f, write, read, map_length, map_capacity, open_directory, give, take_back, iter_r}
+
+-- ---- the test that every call on a store begins with
+
+pub capacity_tested : (capacity_asks ≡ λ κs a. Unit {0}) × (capacity_tells ≡ λ κs a z e. z ≡ tested a.0.now)
+capacity_tested = (refl, refl)
+
+-- it answers the capacity that the slice has, 0 standing for none
+pub tested_capacity : (s : List ℕ) → result_unwrap_or (tested s) 0 ≡ capacity_of s
+unfolding capacity_of
+tested_capacity s = go (is_store s)
+  where
+    go : (b : Bool) → result_unwrap_or (cond b (Ok (cap s)) (Err NoStore)) 0 ≡ cond b (cap s) 0
+    go true = refl
+    go false = refl
 
 -- ---- calls on one store
 

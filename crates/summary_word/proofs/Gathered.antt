@@ -1,5 +1,5 @@
 -- One word of a summary: the flags of 64 words, or of those that are left, gathered from the last down.
-use Rattle.std.proofs.Common.{◌≡◌, ℕ, zero, suc, ◌+◌, ◌-◌, ◌*◌, ◌/◌, ◌%◌, ◌^◌, ◌<◌, ◌≤◌, min, List, [], ◌∷◌, ◌++◌, length, take, drop, reverse, bit_or, refl, sym, ap, ap₂, subst, ◌∙◌, arith, length-drop, take_all, drop-drop, take-append-drop, pow-suc}
+use Rattle.std.proofs.Common.{◌≡◌, Bool, true, false, not, cond, eqb, ℕ, zero, suc, ◌+◌, ◌-◌, ◌*◌, ◌/◌, ◌%◌, ◌^◌, ◌<◌, ◌≤◌, min, List, [], ◌∷◌, ◌++◌, length, take, drop, reverse, bit_or, refl, sym, ap, ap₂, subst, ◌∙◌, arith, length-drop, take_all, drop-drop, take-append-drop, pow-suc}
 use Rattle.std.proofs.lemmas.List.{reverse-append}
 use Rattle.std.proofs.lemmas.List.Sums.{fold-append}
 use Rattle.std.proofs.lemmas.Nat.{or_shifted, pow-add}
@@ -10,8 +10,17 @@ use Rattle.std.specs.Simd.{first_chunks}
 use lib.ListN.{drop_of_length-le}
 use lib.Pow.{pow_mono, pow_pos}
 use lib.Seq.{length-take-le}
+use mir.Val.{bool_byte}
 use Rattle.store.specs.Build.{flag, flags}
 use Rattle.store.proofs.Build.{flags_lt}
+
+-- a comparison with 0 as a number
+pub flag_byte : (w : ℕ) → bool_byte (not (eqb w 0)) ≡ flag w
+flag_byte w = go (eqb w 0)
+  where
+    go : (b : Bool) → bool_byte (not b) ≡ cond b 0 1
+    go true = refl
+    go false = refl
 
 -- the flags of a list behind another
 flags-append : (xs ys : List ℕ) → flags (xs ++ ys) ≡ flags xs + 2 ^ length xs * flags ys
