@@ -76,7 +76,9 @@ impl Words for Pair<'_> {
     }
 }
 
-// As many members of two stores of capacity n, joined, as `out` holds or the budget allows. A slice that is no store has no members.
+// As many members of two stores of capacity n, joined, as `out` holds or the budget allows. A slice that is no store has no members. It is a
+// function of its own, so that the fill over any formula takes no register from its loop.
+#[inline(never)]
 pub fn fill(
     c: Cursor,
     code: u8,
