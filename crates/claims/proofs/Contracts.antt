@@ -63,6 +63,7 @@ use Rattle.directory.proofs.Directory.give.Reads.{Asked as give_asks, Learnt as 
 use Rattle.directory.proofs.Directory.«open».Reads.{Asked as open_directory_asks, Learnt as open_directory_tells}
 use Rattle.directory.proofs.Directory.take_back.Reads.{Asked as take_back_asks, Learnt as take_back_tells}
 use Rattle.claims.specs.Calls.{Meets, promise_of, Moves}
+use Rattle.claims.specs.Tested.{capacity_answered}
 use Rattle.claims.specs.Calls.Call.{«open», add, remove, contains, add_list, is_empty, clear, contains_set, equal, get_from_layer, average_ones, first_free, is_sound, rebuild, bitor_assign, bitand_assign, bitxor_assign, start, next, fill, contains_f, is_empty_f, get_from_layer_f, start_f, next_f, fill_f, write, read, map_length, map_capacity, open_directory, give, take_back, iter_r}
 
 -- ---- the test that every call on a store begins with
@@ -70,8 +71,8 @@ use Rattle.claims.specs.Calls.Call.{«open», add, remove, contains, add_list, i
 pub capacity_tested : (capacity_asks ≡ λ κs a. Unit {0}) × (capacity_tells ≡ λ κs a z e. z ≡ tested a.0.now)
 capacity_tested = (refl, refl)
 
--- it answers the capacity that the slice has, 0 standing for none
-pub tested_capacity : (s : List ℕ) → result_unwrap_or (tested s) 0 ≡ capacity_of s
+-- it answers the capacity that the slice has
+pub tested_capacity : (s : List ℕ) → capacity_answered s ≡ capacity_of s
 unfolding capacity_of
 tested_capacity s = go (is_store s)
   where

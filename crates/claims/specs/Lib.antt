@@ -4,3 +4,4 @@ pub mod Again
 pub mod Calls
 pub mod Stores
 pub mod OneWalk
+pub mod Tested
